@@ -1,0 +1,16 @@
+// Words as sets of numbers, and the set of places.
+ghost use Rattle.bitset.specs.Laws.{Set-laws};
+
+mod place_set;
+pub mod words;
+
+pub use place_set::PlaceSet;
+pub use place_set::PlaceSetDebug;
+pub use place_set::PlaceSetPartialEq;
+
+// The laws of words as sets, over every width; the contract is the theorem.
+pub fn set_laws_hold() -> bool
+    ensures { λ _. ⌜ Set-laws ⌝ }
+{
+    true
+}
