@@ -269,5 +269,6 @@ first-member w p (suc k) h e least = ⊎-elim
     go : (b : Bool) → first-of (members w k) ≡ Some p → first-of (cond b (members w k ++ k ∷ []) (members w k)) ≡ Some p
     go true ih = first-append (members w k) (k ∷ []) p ih
     go false ih = ih
+
     last : first-of (members w (suc p)) ≡ Some p
     last = rw (e, no-members w p least) refl

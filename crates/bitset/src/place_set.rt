@@ -69,7 +69,9 @@ impl PlaceSet {
         ensures { λ r. ⌜ places-in r ≡ with-place (places-in self) place ⌝ }
     {
         if place < Self::ROOM {
-            PlaceSet { word: self.word | 1 << place }
+            PlaceSet {
+                word: self.word | 1 << place,
+            }
         } else {
             self
         }
@@ -79,21 +81,27 @@ impl PlaceSet {
     pub fn union(self, other: PlaceSet) -> PlaceSet
         ensures { λ r. ⌜ places-in r ≡ bitOr (places-in self) (places-in other) ⌝ }
     {
-        PlaceSet { word: self.word | other.word }
+        PlaceSet {
+            word: self.word | other.word,
+        }
     }
 
     // The places of both sets.
     pub fn common(self, other: PlaceSet) -> PlaceSet
         ensures { λ r. ⌜ places-in r ≡ bitAnd (places-in self) (places-in other) ⌝ }
     {
-        PlaceSet { word: self.word & other.word }
+        PlaceSet {
+            word: self.word & other.word,
+        }
     }
 
     // The places that are not in `other`.
     pub fn without(self, other: PlaceSet) -> PlaceSet
         ensures { λ r. ⌜ places-in r ≡ taken-away (places-in self) (places-in other) ⌝ }
     {
-        PlaceSet { word: self.word & !other.word }
+        PlaceSet {
+            word: self.word & !other.word,
+        }
     }
 
     // The lowest place of the set.

@@ -28,5 +28,9 @@ pub fn apart(one: u32, other: u32) -> bool
 pub fn below(count: usize) -> u32
     ensures { λ r. ⌜ r ≡ all-below (min count 32) ⌝ }
 {
-    if count < 32 { (1 << count) - 1 } else { u32::MAX }
+    if count < 32 {
+        (1 << count) - 1
+    } else {
+        u32::MAX
+    }
 }

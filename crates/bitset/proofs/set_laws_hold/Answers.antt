@@ -16,5 +16,5 @@ returns c =
       apart-members = apart-each;
       members-apart = apart-from;
       each-once = count-members;
-      counted = ones-members
+      counted = ones-members;
     }

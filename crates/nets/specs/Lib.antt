@@ -1,0 +1,4 @@
+pub mod Ranges
+pub mod Kinds
+pub mod Nets
+pub mod Stored

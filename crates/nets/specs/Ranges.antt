@@ -1,0 +1,30 @@
+-- How many places, transitions, lines and outputs a net may have.
+use mathlib.Core.Bool.{Bool, cond, _||_}
+use mathlib.Core.List.{List, [], _∷_, _++_}
+use Prim.Native.Nat.{ℕ}
+use lib.Dec.{eqb, ltb}
+use Rattle.std.specs.declared.option.Option.{Option}
+use Rattle.std.specs.declared.option.Option.the-variants.{None, Some}
+use Rattle.nets.specs.declared.quantity.Quantity.{Quantity}
+use Rattle.nets.specs.declared.quantity.Quantity.the-variants.{Places, Transitions, Lines, Outputs}
+
+-- the most that a net may have of each
+abbrev pub most : Quantity → ℕ
+most Places = 64
+most Transitions = 64
+most Lines = 32
+most Outputs = 32
+
+-- the quantity, where the count is 0 or above the most
+abbrev pub unless-in-range : Quantity → ℕ → List Quantity
+unless-in-range q n = cond (eqb n 0 || ltb (most q) n) (q ∷ []) []
+
+-- the quantities whose counts are out of range, in this order
+abbrev pub out-of-range : ℕ → ℕ → ℕ → ℕ → List Quantity
+out-of-range places transitions lines outputs =
+    unless-in-range Places places ++ (unless-in-range Transitions transitions ++ (unless-in-range Lines lines ++ unless-in-range Outputs outputs))
+
+-- the first of a list
+abbrev pub first-of : {X : Type 0} → List X → Option X
+first-of [] = None
+first-of (x ∷ xs) = Some x

@@ -1,0 +1,94 @@
+// How a net is read, and how it is filled from nothing.
+ghost use mathlib.Core.List.{map};
+ghost use mathlib.Core.Path.{_≡_};
+ghost use lib.ListN.{length};
+ghost use Rattle.bitset.specs.Places.{places-in};
+ghost use Rattle.nets.specs.Stored.{net-of, blank-net, net-with-arc, net-with-term, with-place-record, transition-of};
+use super::Net;
+use crate::arc_kind::ArcKind;
+use crate::counts::Counts;
+use crate::term::Term;
+use crate::transition::Transition;
+use bitset::PlaceSet;
+
+impl Net {
+    // A net of these counts with no start place, no output raised, no arc and no term.
+    pub fn blank(counts: Counts) -> Net
+        ensures { λ r. ⌜ net-of r ≡ blank-net counts ⌝ }
+    {
+        Net {
+            counts,
+            start: PlaceSet::empty(),
+            raises: [0; 64],
+            transitions: [Transition::unconnected(); 64],
+        }
+    }
+
+    // The counts of its places, transitions, lines and outputs.
+    pub fn counts(&self) -> Counts
+        ensures places { λ r. ⌜ r .places ≡ net-of (now (self .entry)) .places ⌝ }
+        ensures transitions { λ r. ⌜ r .transitions ≡ length (net-of (now (self .entry)) .transitions) ⌝ }
+        ensures lines { λ r. ⌜ r .lines ≡ net-of (now (self .entry)) .lines ⌝ }
+        ensures outputs { λ r. ⌜ r .outputs ≡ net-of (now (self .entry)) .outputs ⌝ }
+    {
+        self.counts
+    }
+
+    // The places that are marked at the start.
+    pub fn start(&self) -> PlaceSet
+        ensures { λ r. ⌜ places-in r ≡ net-of (now (self .entry)) .start ⌝ }
+    {
+        self.start
+    }
+
+    // For each place the outputs that it raises.
+    pub fn raises(&self) -> &[u32]
+        ensures { λ r. ⌜ now r ≡ net-of (now (self .entry)) .raises ⌝ }
+    {
+        &self.raises[0..self.counts.places]
+    }
+
+    // Its transitions by number.
+    pub fn transitions(&self) -> &[Transition]
+        ensures { λ r. ⌜ map transition-of (now r) ≡ net-of (now (self .entry)) .transitions ⌝ }
+    {
+        &self.transitions[0..self.counts.transitions]
+    }
+
+    // Says what `place` raises and whether it starts marked; nothing changes where the net lacks the place.
+    pub fn set_place(&mut self, place: usize, starts: bool, raise: u32)
+        ensures { λ _. ⌜ net-of (now (self .exit)) ≡ with-place-record (net-of (now (self .entry))) place starts raise ⌝ }
+    {
+        if place >= self.counts.places {
+            return;
+        }
+        self.raises[place] = raise;
+        if starts {
+            self.start = self.start.with(place);
+        }
+    }
+
+    // One arc more; nothing changes where the net lacks the transition or the place.
+    pub fn add_arc(&mut self, transition: usize, kind: ArcKind, place: usize)
+        ensures { λ _. ⌜ net-of (now (self .exit)) ≡ net-with-arc (net-of (now (self .entry))) transition kind place ⌝ }
+    {
+        if transition >= self.counts.transitions || place >= self.counts.places {
+            return;
+        }
+        let mut held = self.transitions[transition];
+        held.add_arc(kind, place);
+        self.transitions[transition] = held;
+    }
+
+    // One term more; nothing changes where the net lacks the transition, or the transition has four.
+    pub fn add_term(&mut self, transition: usize, term: Term)
+        ensures { λ _. ⌜ net-of (now (self .exit)) ≡ net-with-term (net-of (now (self .entry))) transition term ⌝ }
+    {
+        if transition >= self.counts.transitions {
+            return;
+        }
+        let mut held = self.transitions[transition];
+        held.add_term(term);
+        self.transitions[transition] = held;
+    }
+}
