@@ -1,0 +1,125 @@
+-- The rules on a net file: every rule that a file breaks, in the order in which they are tested.
+use mathlib.Core.Bool.{Bool, true, false, not, cond, _&&_, _||_}
+use mathlib.Core.List.{List, [], _∷_, _++_, map}
+use Prim.Native.Nat.{ℕ, zero, suc, _+_, _*_, _%_}
+use lib.Dec.{eqb, leb, ltb}
+use lib.ListN.{length}
+use Rattle.bitset.specs.Sets.{within, apart, below}
+use Rattle.nets.specs.Nets.{Net, at}
+use Rattle.nets.specs.Ranges.{out-of-range}
+use Rattle.netfile.specs.declared.records.ArcRecord.{ArcRecord}
+use Rattle.netfile.specs.declared.records.PlaceRecord.{PlaceRecord}
+use Rattle.netfile.specs.declared.records.TermRecord.{TermRecord}
+use Rattle.netfile.specs.declared.refusal.PairFault.the-variants.{StartsEarly, PassesEnd, BrokenRecord}
+use Rattle.netfile.specs.declared.refusal.RecordFault.the-variants.{StartMark, Output, Transition, Place, Kind, HighLine, LowLine}
+use Rattle.netfile.specs.declared.refusal.Refusal.{Refusal}
+use Rattle.netfile.specs.declared.refusal.Refusal.the-variants.{FileSize, Pair, Count, PlacesLength, Record, RepeatedArc, LineInBothWords, FifthTerm, MovesNothing, NoTerm, NoStartPlace}
+use Rattle.netfile.specs.declared.table.Table.{Table}
+use Rattle.netfile.specs.declared.table.Table.the-variants.{Places, Arcs, Terms}
+use Rattle.netfile.specs.Tables.{record-size}
+use Rattle.netfile.specs.Files.{places-said, transitions-said, lines-said, outputs-said, table-start, table-length, table-end, earliest, table-in, records, place-record, arc-record, term-record, term-list, net-in}
+
+-- the refusal, where its rule is broken
+abbrev pub where-broken : Bool → Refusal → List Refusal
+where-broken true r = r ∷ []
+where-broken false r = []
+
+-- what is broken for each number below k, in rising order
+abbrev pub each-below : (ℕ → List Refusal) → ℕ → List Refusal
+each-below f zero = []
+each-below f (suc i) = each-below f i ++ f i
+
+-- a file has 16 to 16,384 bytes
+abbrev pub size-broken : List ℕ → List Refusal
+size-broken file = where-broken (ltb (length file) 16 || ltb 16384 (length file)) FileSize
+
+-- a table starts neither before byte 16 nor before the end of the table before, ends within the file, and has whole records
+abbrev pub pair-broken : List ℕ → Table → List Refusal
+pair-broken file t =
+    where-broken (ltb (table-start file t) (earliest file t)) (Pair t StartsEarly)
+    ++ (where-broken (ltb (length file) (table-end file t)) (Pair t PassesEnd)
+    ++ where-broken (not (eqb (table-length file t % record-size t) 0)) (Pair t BrokenRecord))
+
+abbrev pub pairs-broken : List ℕ → List Refusal
+pairs-broken file = pair-broken file Places ++ (pair-broken file Arcs ++ pair-broken file Terms)
+
+-- each count is in its range, and the places table has a record for each place
+abbrev pub counts-broken : List ℕ → List Refusal
+counts-broken file =
+    map Count (out-of-range (places-said file) (transitions-said file) (lines-said file) (outputs-said file))
+    ++ where-broken (not (eqb (table-length file Places) (5 * places-said file))) PlacesLength
+
+-- a place's start mark is 0 or 1, and it raises outputs of the net only
+abbrev pub place-broken : ℕ → PlaceRecord → ℕ → List Refusal
+place-broken outputs p i =
+    where-broken (ltb 1 (p .mark)) (Record Places i StartMark)
+    ++ where-broken (not (within (p .raise) (below outputs))) (Record Places i Output)
+
+-- whether one of the arcs below k joins transition t and place p
+abbrev pub joined-before : List ℕ → ℕ → ℕ → ℕ → Bool
+joined-before arcs t p zero = false
+joined-before arcs t p (suc i) = (eqb (arc-record arcs i .transition) t && eqb (arc-record arcs i .place) p) || joined-before arcs t p i
+
+-- an arc joins a transition and a place of the net, is of one of the four kinds, and joins no two that an earlier arc joins
+abbrev pub arc-broken : ℕ → ℕ → Bool → ArcRecord → ℕ → List Refusal
+arc-broken places transitions joined a i =
+    where-broken (leb transitions (a .transition)) (Record Arcs i Transition)
+    ++ (where-broken (leb places (a .place)) (Record Arcs i Place)
+    ++ (where-broken (ltb 3 (a .kind)) (Record Arcs i Kind)
+    ++ where-broken joined (RepeatedArc i)))
+
+-- a term is one of a transition of the net, has lines of the net only and none in both words, and is no fifth term
+abbrev pub term-broken : ℕ → ℕ → ℕ → TermRecord → ℕ → List Refusal
+term-broken transitions lines earlier r i =
+    where-broken (leb transitions (r .transition)) (Record Terms i Transition)
+    ++ (where-broken (not (within (r .term .high) (below lines))) (Record Terms i HighLine)
+    ++ (where-broken (not (within (r .term .low) (below lines))) (Record Terms i LowLine)
+    ++ (where-broken (not (apart (r .term .high) (r .term .low))) (LineInBothWords i)
+    ++ where-broken (leb 4 earlier) (FifthTerm i))))
+
+-- whether a list is empty
+abbrev pub none-in : {X : Type 0} → List X → Bool
+none-in [] = true
+none-in (x ∷ xs) = false
+
+-- a transition consumes or produces something, and has a term
+abbrev pub transition-broken : Net → ℕ → List Refusal
+transition-broken n t =
+    where-broken (eqb (at n t .consumes) 0 && eqb (at n t .produces) 0) (MovesNothing t)
+    ++ where-broken (none-in (at n t .terms)) (NoTerm t)
+
+-- some place starts marked
+abbrev pub start-broken : Net → List Refusal
+start-broken n = where-broken (eqb (n .start) 0) NoStartPlace
+
+abbrev pub places-broken : ℕ → List ℕ → List Refusal
+places-broken outputs places = each-below (λ i. place-broken outputs (place-record places i) i) (records Places places)
+
+abbrev pub arcs-broken : ℕ → ℕ → List ℕ → ℕ → List Refusal
+arcs-broken places transitions arcs =
+    each-below (λ i. arc-broken places transitions (joined-before arcs (arc-record arcs i .transition) (arc-record arcs i .place) i) (arc-record arcs i) i)
+
+abbrev pub terms-broken : ℕ → ℕ → List ℕ → ℕ → List Refusal
+terms-broken transitions lines terms =
+    each-below (λ i. term-broken transitions lines (length (term-list terms (term-record terms i .transition) i)) (term-record terms i) i)
+
+-- what the net as a whole breaks
+abbrev pub net-broken : Net → ℕ → List Refusal
+net-broken n transitions = each-below (transition-broken n) transitions ++ start-broken n
+
+-- the records of the three tables, the transitions and the start, for these counts
+abbrev pub records-broken : List ℕ → List Refusal
+records-broken file =
+    places-broken (outputs-said file) (table-in file Places)
+    ++ (arcs-broken (places-said file) (transitions-said file) (table-in file Arcs) (records Arcs (table-in file Arcs))
+    ++ (terms-broken (transitions-said file) (lines-said file) (table-in file Terms) (records Terms (table-in file Terms))
+    ++ net-broken (net-in file) (transitions-said file)))
+
+-- the second list, unless the first has something: what it speaks of cannot be told from the file before that is mended
+abbrev pub unless-any : List Refusal → List Refusal → List Refusal
+unless-any [] later = later
+unless-any (r ∷ rs) later = r ∷ rs
+
+-- every rule that a file breaks, in the order in which they are tested
+abbrev pub broken : List ℕ → List Refusal
+broken file = unless-any (size-broken file) (unless-any (pairs-broken file) (counts-broken file ++ records-broken file))

@@ -1,0 +1,35 @@
+// The arcs table.
+use crate::records::ArcRecord;
+use crate::records::arc_at;
+use crate::records::record_count;
+use crate::refusal::RecordFault;
+use crate::refusal::Refusal;
+use crate::table::Table;
+use nets::ArcKind;
+use nets::Net;
+
+// Puts arc `index` into the net, or says which rule its record breaks.
+fn put_arc(net: &mut Net, index: usize, arc: ArcRecord) -> Result<(), Refusal> {
+    let Some(transition) = net.transitions().get(arc.transition) else {
+        return Err(Refusal::Record(Table::Arcs, index, RecordFault::Transition));
+    };
+    if arc.place >= net.counts().places {
+        return Err(Refusal::Record(Table::Arcs, index, RecordFault::Place));
+    }
+    let Some(kind) = ArcKind::from_number(arc.kind) else {
+        return Err(Refusal::Record(Table::Arcs, index, RecordFault::Kind));
+    };
+    if transition.joins(arc.place) {
+        return Err(Refusal::RepeatedArc(index));
+    }
+    net.add_arc(arc.transition, kind, arc.place);
+    Ok(())
+}
+
+// Puts the arcs of the table into the net, up to the first record that breaks a rule.
+pub fn put_arcs(net: &mut Net, table: &[u8]) -> Result<(), Refusal> {
+    for i in 0..record_count(Table::Arcs, table) {
+        put_arc(net, i, arc_at(table, i))?;
+    }
+    Ok(())
+}

@@ -1,0 +1,29 @@
+// The places table.
+use crate::records::PlaceRecord;
+use crate::records::place_at;
+use crate::records::record_count;
+use crate::refusal::RecordFault;
+use crate::refusal::Refusal;
+use crate::table::Table;
+use bitset::words;
+use nets::Net;
+
+// Puts place `index` into the net, or says which rule its record breaks.
+fn put_place(net: &mut Net, index: usize, place: PlaceRecord) -> Result<(), Refusal> {
+    if place.mark > 1 {
+        return Err(Refusal::Record(Table::Places, index, RecordFault::StartMark));
+    }
+    if !words::within(place.raise, words::below(net.counts().outputs)) {
+        return Err(Refusal::Record(Table::Places, index, RecordFault::Output));
+    }
+    net.set_place(index, place.mark == 1, place.raise);
+    Ok(())
+}
+
+// Puts the places of the table into the net, up to the first record that breaks a rule.
+pub fn put_places(net: &mut Net, table: &[u8]) -> Result<(), Refusal> {
+    for i in 0..record_count(Table::Places, table) {
+        put_place(net, i, place_at(table, i))?;
+    }
+    Ok(())
+}

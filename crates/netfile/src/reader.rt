@@ -1,0 +1,28 @@
+// The reader of net files.
+use crate::arcs::put_arcs;
+use crate::layout::Tables;
+use crate::layout::counts_in;
+use crate::layout::tables_in;
+use crate::places::put_places;
+use crate::refusal::Refusal;
+use crate::terms::put_terms;
+use crate::transitions::check_net;
+use nets::Counts;
+use nets::Net;
+
+// The net of these counts that the tables say, or the first rule that they break.
+fn filled(counts: Counts, tables: Tables) -> Result<Net, Refusal> {
+    let mut net = Net::blank(counts);
+    put_places(&mut net, tables.places)?;
+    put_arcs(&mut net, tables.arcs)?;
+    put_terms(&mut net, tables.terms)?;
+    check_net(&net)?;
+    Ok(net)
+}
+
+// The net that a file says, or the first rule that the file breaks.
+pub fn read(file: &[u8]) -> Result<Net, Refusal> {
+    let tables = tables_in(file)?;
+    let counts = counts_in(file)?;
+    filled(counts, tables)
+}
