@@ -2,3 +2,4 @@ pub mod Tables
 pub mod Codes
 pub mod Files
 pub mod Rules
+pub mod Steps

@@ -7,6 +7,7 @@ use lib.ListN.{length}
 use Rattle.bitset.specs.Sets.{within, apart, below}
 use Rattle.nets.specs.Nets.{Net, at}
 use Rattle.nets.specs.Ranges.{out-of-range}
+use Rattle.nets.specs.declared.term.Term.{Term}
 use Rattle.netfile.specs.declared.records.ArcRecord.{ArcRecord}
 use Rattle.netfile.specs.declared.records.PlaceRecord.{PlaceRecord}
 use Rattle.netfile.specs.declared.records.TermRecord.{TermRecord}
@@ -68,14 +69,19 @@ arc-broken places transitions joined a i =
     ++ (where-broken (ltb 3 (a .kind)) (Record Arcs i Kind)
     ++ where-broken joined (RepeatedArc i)))
 
--- a term is one of a transition of the net, has lines of the net only and none in both words, and is no fifth term
+-- a term has lines of the net only, and none in both words
+abbrev pub words-broken : ℕ → Term → ℕ → List Refusal
+words-broken lines c i =
+    where-broken (not (within (c .high) (below lines))) (Record Terms i HighLine)
+    ++ (where-broken (not (within (c .low) (below lines))) (Record Terms i LowLine)
+    ++ where-broken (not (apart (c .high) (c .low))) (LineInBothWords i))
+
+-- a term is one of a transition of the net, its words are right, and it is no fifth term
 abbrev pub term-broken : ℕ → ℕ → ℕ → TermRecord → ℕ → List Refusal
 term-broken transitions lines earlier r i =
     where-broken (leb transitions (r .transition)) (Record Terms i Transition)
-    ++ (where-broken (not (within (r .term .high) (below lines))) (Record Terms i HighLine)
-    ++ (where-broken (not (within (r .term .low) (below lines))) (Record Terms i LowLine)
-    ++ (where-broken (not (apart (r .term .high) (r .term .low))) (LineInBothWords i)
-    ++ where-broken (leb 4 earlier) (FifthTerm i))))
+    ++ (words-broken lines (r .term) i
+    ++ where-broken (leb 4 earlier) (FifthTerm i))
 
 -- whether a list is empty
 abbrev pub none-in : {X : Type 0} → List X → Bool

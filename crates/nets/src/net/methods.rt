@@ -1,9 +1,12 @@
 // How a net is read, and how it is filled from nothing.
+ghost use Prim.Native.Nat.{_≤_, _<_};
 ghost use mathlib.Core.List.{map};
 ghost use mathlib.Core.Path.{_≡_};
 ghost use lib.ListN.{length};
 ghost use Rattle.bitset.specs.Places.{places-in};
+ghost use Rattle.nets.specs.Nets.{at};
 ghost use Rattle.nets.specs.Stored.{net-of, blank-net, net-with-arc, net-with-term, with-place-record, transition-of};
+ghost use Rattle.std.specs.Options.{Cases};
 use super::Net;
 use crate::arc_kind::ArcKind;
 use crate::counts::Counts;
@@ -53,6 +56,16 @@ impl Net {
         ensures { λ r. ⌜ map transition-of (now r) ≡ net-of (now (self .entry)) .transitions ⌝ }
     {
         &self.transitions[0..self.counts.transitions]
+    }
+
+    // Transition `number`, if the net has it.
+    pub fn transition(&self, number: usize) -> Option<&Transition>
+        ensures { λ r. ⌜ Cases r (length (net-of (now (self .entry)) .transitions) ≤ number) (λ t. (number < length (net-of (now (self .entry)) .transitions)) × (transition-of (now t) ≡ at (net-of (now (self .entry))) number)) ⌝ }
+    {
+        if number >= self.counts.transitions {
+            return None;
+        }
+        Some(&self.transitions[number])
     }
 
     // Says what `place` raises and whether it starts marked; nothing changes where the net lacks the place.
