@@ -5,7 +5,7 @@ use Prim.Native.Nat.{ℕ, zero, suc, _+_, _*_, _%_}
 use lib.Dec.{eqb, leb, ltb}
 use lib.ListN.{length}
 use Rattle.bitset.specs.Sets.{within, apart, below}
-use Rattle.nets.specs.Nets.{Net, at}
+use Rattle.nets.specs.Nets.{Net, Transition as NetTransition, at}
 use Rattle.nets.specs.Ranges.{out-of-range}
 use Rattle.nets.specs.declared.term.Term.{Term}
 use Rattle.netfile.specs.declared.records.ArcRecord.{ArcRecord}
@@ -89,10 +89,9 @@ none-in [] = true
 none-in (x ∷ xs) = false
 
 -- a transition consumes or produces something, and has a term
-abbrev pub transition-broken : Net → ℕ → List Refusal
-transition-broken n t =
-    where-broken (eqb (at n t .consumes) 0 && eqb (at n t .produces) 0) (MovesNothing t)
-    ++ where-broken (none-in (at n t .terms)) (NoTerm t)
+abbrev pub transition-broken : NetTransition → ℕ → List Refusal
+transition-broken x t =
+    where-broken (eqb (x .consumes) 0 && eqb (x .produces) 0) (MovesNothing t) ++ where-broken (none-in (x .terms)) (NoTerm t)
 
 -- some place starts marked
 abbrev pub start-broken : Net → List Refusal
@@ -109,9 +108,13 @@ abbrev pub terms-broken : ℕ → ℕ → List ℕ → ℕ → List Refusal
 terms-broken transitions lines terms =
     each-below (λ i. term-broken transitions lines (length (term-list terms (term-record terms i .transition) i)) (term-record terms i) i)
 
+-- what the transitions of a net break
+abbrev pub transitions-broken : Net → List Refusal
+transitions-broken n = each-below (λ t. transition-broken (at n t) t) (length (n .transitions))
+
 -- what the net as a whole breaks
-abbrev pub net-broken : Net → ℕ → List Refusal
-net-broken n transitions = each-below (transition-broken n) transitions ++ start-broken n
+abbrev pub net-broken : Net → List Refusal
+net-broken n = transitions-broken n ++ start-broken n
 
 -- the records of the three tables, the transitions and the start, for these counts
 abbrev pub records-broken : List ℕ → List Refusal
@@ -119,7 +122,7 @@ records-broken file =
     places-broken (outputs-said file) (table-in file Places)
     ++ (arcs-broken (places-said file) (transitions-said file) (table-in file Arcs) (records Arcs (table-in file Arcs))
     ++ (terms-broken (transitions-said file) (lines-said file) (table-in file Terms) (records Terms (table-in file Terms))
-    ++ net-broken (net-in file) (transitions-said file)))
+    ++ net-broken (net-in file)))
 
 -- the second list, unless the first has something: what it speaks of cannot be told from the file before that is mended
 abbrev pub unless-any : List Refusal → List Refusal → List Refusal

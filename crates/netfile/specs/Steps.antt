@@ -93,4 +93,4 @@ filling-wrong n places arcs terms =
     places-wrong n places
     ++ (arcs-wrong (with-places n places) arcs
     ++ (terms-wrong (with-arcs (with-places n places) arcs) terms
-    ++ net-broken (filled-net n places arcs terms) (length (filled-net n places arcs terms .transitions))))
+    ++ net-broken (filled-net n places arcs terms)))

@@ -1,10 +1,17 @@
 // What a net has to have once all its records are in it.
+ghost use mathlib.Core.Path.{_≡_};
+ghost use Rattle.netfile.specs.Rules.{transition-broken, transitions-broken, net-broken};
+ghost use Rattle.nets.specs.Ranges.{first-of};
+ghost use Rattle.nets.specs.Stored.{net-of, transition-of};
+ghost use Rattle.std.specs.Results.{errPart};
 use crate::refusal::Refusal;
 use nets::Net;
 use nets::Transition;
 
 // What is wrong with transition `index`.
-fn check_transition(transition: &Transition, index: usize) -> Result<(), Refusal> {
+fn check_transition(transition: &Transition, index: usize) -> Result<(), Refusal>
+    ensures { λ r. ⌜ errPart r ≡ first-of (transition-broken (transition-of (now (transition .entry))) index) ⌝ }
+{
     if transition.consumes.is_empty() && transition.produces.is_empty() {
         return Err(Refusal::MovesNothing(index));
     }
@@ -14,11 +21,21 @@ fn check_transition(transition: &Transition, index: usize) -> Result<(), Refusal
     Ok(())
 }
 
-// The first rule on transitions or on the start that the net breaks.
-pub fn check_net(net: &Net) -> Result<(), Refusal> {
+// The first rule on transitions that the net breaks.
+fn check_transitions(net: &Net) -> Result<(), Refusal>
+    ensures { λ r. ⌜ errPart r ≡ first-of (transitions-broken (net-of (now (net .entry)))) ⌝ }
+{
     for (i, transition) in net.transitions().iter().enumerate() {
         check_transition(transition, i)?;
     }
+    Ok(())
+}
+
+// The first rule on transitions or on the start that the net breaks.
+pub fn check_net(net: &Net) -> Result<(), Refusal>
+    ensures { λ r. ⌜ errPart r ≡ first-of (net-broken (net-of (now (net .entry)))) ⌝ }
+{
+    check_transitions(net)?;
     if net.start().is_empty() {
         return Err(Refusal::NoStartPlace);
     }
