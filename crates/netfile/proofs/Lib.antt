@@ -1,3 +1,7 @@
 pub mod Lists
 pub mod Turns
 pub mod Items
+pub mod Counted
+pub mod Kept
+pub mod Joined
+pub mod Sketch

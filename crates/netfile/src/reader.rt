@@ -1,4 +1,10 @@
 // The reader of net files.
+ghost use mathlib.Core.Path.{_≡_};
+ghost use Rattle.netfile.specs.Steps.{filled-net, filling-wrong};
+ghost use Rattle.nets.specs.Ranges.{first-of};
+ghost use Rattle.nets.specs.Stored.{net-of, blank-net};
+ghost use Rattle.std.specs.Results.{errPart};
+ghost use Rattle.std.specs.Vec.{made};
 use crate::arcs::put_arcs;
 use crate::layout::Tables;
 use crate::layout::counts_in;
@@ -11,7 +17,10 @@ use nets::Counts;
 use nets::Net;
 
 // The net of these counts that the tables say, or the first rule that they break.
-fn filled(counts: Counts, tables: Tables) -> Result<Net, Refusal> {
+fn filled(counts: Counts, tables: Tables) -> Result<Net, Refusal>
+    ensures refused { λ r. ⌜ errPart r ≡ first-of (filling-wrong (blank-net counts) (now (tables .entry .places)) (now (tables .entry .arcs)) (now (tables .entry .terms))) ⌝ }
+    ensures granted { λ r. ⌜ made r (λ n. net-of n ≡ filled-net (blank-net counts) (now (tables .entry .places)) (now (tables .entry .arcs)) (now (tables .entry .terms))) ⌝ }
+{
     let mut net = Net::blank(counts);
     put_places(&mut net, tables.places)?;
     put_arcs(&mut net, tables.arcs)?;
