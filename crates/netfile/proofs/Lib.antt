@@ -5,3 +5,4 @@ pub mod Counted
 pub mod Kept
 pub mod Joined
 pub mod Sketch
+pub mod Agreement

@@ -18,7 +18,7 @@ use Rattle.netfile.specs.declared.refusal.Refusal.the-variants.{FileSize, Pair
 use Rattle.netfile.specs.declared.table.Table.{Table}
 use Rattle.netfile.specs.declared.table.Table.the-variants.{Places, Arcs, Terms}
 use Rattle.netfile.specs.Tables.{record-size}
-use Rattle.netfile.specs.Files.{places-said, transitions-said, lines-said, outputs-said, table-start, table-length, table-end, earliest, table-in, records, place-record, arc-record, term-record, term-list, net-in}
+use Rattle.netfile.specs.Files.{places-said, transitions-said, lines-said, outputs-said, table-start, table-length, table-end, earliest, table-in, records, place-record, arc-record, term-record, term-list, net-said}
 
 -- the refusal, where its rule is broken
 abbrev pub where-broken : Bool → Refusal → List Refusal
@@ -116,13 +116,18 @@ transitions-broken n = each-below (λ t. transition-broken (at n t) t) (length (
 abbrev pub net-broken : Net → List Refusal
 net-broken n = transitions-broken n ++ start-broken n
 
--- the records of the three tables, the transitions and the start, for these counts
+-- what the records of the three tables and the net that they say break, for these counts
+abbrev pub tables-broken : ℕ → ℕ → ℕ → ℕ → List ℕ → List ℕ → List ℕ → List Refusal
+tables-broken p t l o places arcs terms =
+    places-broken o places
+    ++ (arcs-broken p t arcs (records Arcs arcs)
+    ++ (terms-broken t l terms (records Terms terms)
+    ++ net-broken (net-said p t l o places arcs terms)))
+
 abbrev pub records-broken : List ℕ → List Refusal
 records-broken file =
-    places-broken (outputs-said file) (table-in file Places)
-    ++ (arcs-broken (places-said file) (transitions-said file) (table-in file Arcs) (records Arcs (table-in file Arcs))
-    ++ (terms-broken (transitions-said file) (lines-said file) (table-in file Terms) (records Terms (table-in file Terms))
-    ++ net-broken (net-in file)))
+    tables-broken (places-said file) (transitions-said file) (lines-said file) (outputs-said file)
+    (table-in file Places) (table-in file Arcs) (table-in file Terms)
 
 -- the second list, unless the first has something: what it speaks of cannot be told from the file before that is mended
 abbrev pub unless-any : List Refusal → List Refusal → List Refusal
