@@ -28,7 +28,7 @@ has-arc arcs t kind i q = go (arc-of (arc-record arcs i) t kind)
         grind arith
     go false = refl
 
-eqb-comm : (a b : ℕ) → eqb a b ≡ eqb b a
+pub eqb-comm : (a b : ℕ) → eqb a b ≡ eqb b a
 eqb-comm a b = grind (arith, tells)
 
 -- one of the four kinds

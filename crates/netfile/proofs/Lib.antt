@@ -6,3 +6,4 @@ pub mod Kept
 pub mod Joined
 pub mod Sketch
 pub mod Agreement
+pub mod Lawful
