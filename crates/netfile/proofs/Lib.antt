@@ -7,3 +7,4 @@ pub mod Joined
 pub mod Sketch
 pub mod Agreement
 pub mod Lawful
+pub mod Whole

@@ -68,7 +68,7 @@ fn table_part<'a>(file: &'a [u8], table: Table, earliest: usize) -> Result<Part<
 // The three tables, or what is wrong with the file's size or with the first pair that is wrong.
 pub fn tables_in(file: &[u8]) -> Result<Tables<'_>, Refusal>
     ensures refused { λ r. ⌜ errPart r ≡ first-of (unless-any (size-broken (now (file .entry))) (pairs-broken (now (file .entry)))) ⌝ }
-    ensures granted { λ r. ⌜ made r (λ t. (now (t .places) ≡ table-in (now (file .entry)) Places) × (now (t .arcs) ≡ table-in (now (file .entry)) Arcs) × (now (t .terms) ≡ table-in (now (file .entry)) Terms)) ⌝ }
+    ensures granted { λ r. ⌜ made r (λ t. (16 ≤ length (now (file .entry))) × (now (t .places) ≡ table-in (now (file .entry)) Places) × (now (t .arcs) ≡ table-in (now (file .entry)) Arcs) × (now (t .terms) ≡ table-in (now (file .entry)) Terms)) ⌝ }
 {
     if file.len() < HEADER || file.len() > LONGEST {
         return Err(Refusal::FileSize);

@@ -1,9 +1,12 @@
 // The reader of net files.
 ghost use mathlib.Core.Path.{_≡_};
+ghost use Rattle.netfile.specs.Files.{net-in};
+ghost use Rattle.netfile.specs.Rules.{broken, none-in};
 ghost use Rattle.netfile.specs.Steps.{filled-net, filling-wrong};
 ghost use Rattle.nets.specs.Ranges.{first-of};
 ghost use Rattle.nets.specs.Stored.{net-of, blank-net};
-ghost use Rattle.std.specs.Results.{errPart};
+ghost use Rattle.nets.specs.WellFormed.{WellFormed};
+ghost use Rattle.std.specs.Results.{errPart, isOk};
 ghost use Rattle.std.specs.Vec.{made};
 use crate::arcs::put_arcs;
 use crate::layout::Tables;
@@ -30,7 +33,12 @@ fn filled(counts: Counts, tables: Tables) -> Result<Net, Refusal>
 }
 
 // The net that a file says, or the first rule that the file breaks.
-pub fn read(file: &[u8]) -> Result<Net, Refusal> {
+pub fn read(file: &[u8]) -> Result<Net, Refusal>
+    ensures refused { λ r. ⌜ errPart r ≡ first-of (broken (now (file .entry))) ⌝ }
+    ensures accepted { λ r. ⌜ isOk r ≡ none-in (broken (now (file .entry))) ⌝ }
+    ensures granted { λ r. ⌜ made r (λ n. net-of n ≡ net-in (now (file .entry))) ⌝ }
+    ensures lawful { λ r. ⌜ made r (λ n. WellFormed (net-of n)) ⌝ }
+{
     let tables = tables_in(file)?;
     let counts = counts_in(file)?;
     filled(counts, tables)
