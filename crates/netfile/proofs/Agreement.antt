@@ -114,7 +114,7 @@ module _ (c : Counts) (ps ars ts : List ℕ) (whole : records Places ps ≡ c .p
           outputs = c .outputs;
           start = so-far 0 0 .start;
           raises = r;
-          transitions = so-far (records Arcs ars) (records Terms ts) .transitions
+          transitions = so-far (records Arcs ars) (records Terms ts) .transitions;
         })
         (counted-same (raised c ps ars ts (c .places)) (λ i. place-record ps i .raise) (c .places)
         (λ q h. ap (λ b. cond b (place-record ps q .raise) 0) (lt-ltb q (c .places) h)))

@@ -33,7 +33,9 @@ module _ {X : Type 0} where
     where
       long : i < length (map f (counting 0 n))
       long = let s = length-map-counting f 0 n in omega arith
+
       at : (k : ℕ) → k < n → k ≡ i → getD (set (map f (counting 0 n)) i x) k x ≡ g k
       at k l s = ap (λ (j : ℕ). getD (set (map f (counting 0 n)) i x) j x) s ∙ getD-set-same (map f (counting 0 n)) i x x long ∙ e ∙ ap g (sym s)
+
       other : (k : ℕ) → k < n → (k ≡ i → ⊥) → getD (set (map f (counting 0 n)) i x) k x ≡ g k
       other k l s = getD-set-other (map f (counting 0 n)) i k x x s ∙ counted-at f n k x l ∙ same k s

@@ -44,7 +44,7 @@ arc-kept places transitions joined a i e =
       transition = leb-false transitions (a .transition) (x .0);
       place = leb-false places (a .place) (y .0);
       kind = ltb-false 3 (a .kind) (z .0);
-      alone = kept-last joined (RepeatedArc i) (z .1)
+      alone = kept-last joined (RepeatedArc i) (z .1);
     }
 
 -- whether the transition and the place of arc i are joined by an earlier one
@@ -70,7 +70,7 @@ words-kept lines c i e =
     record {
       high = not-false (within (c .high) (below lines)) (x .0);
       low = not-false (within (c .low) (below lines)) (y .0);
-      both = not-false (apart (c .high) (c .low)) z
+      both = not-false (apart (c .high) (c .low)) z;
     }
 
 pub record TermKept (transitions lines earlier : ℕ) (r : TermRecord) : Type 0 where
@@ -85,7 +85,7 @@ term-kept transitions lines earlier r i e =
     record {
       transition = leb-false transitions (r .transition) (x .0);
       words = words-kept lines (r .term) i (y .0);
-      few = leb-false 4 earlier (kept-last (leb 4 earlier) (FifthTerm i) (y .1))
+      few = leb-false 4 earlier (kept-last (leb 4 earlier) (FifthTerm i) (y .1));
     }
 
 -- how many terms before record i are of its transition

@@ -178,7 +178,7 @@ module _ (c : Counts) (ps ars ts : List ℕ) (whole : records Places ps ≡ c .p
         moves-something = moves (arc-places ars t 0 (records Arcs ars)) (arc-places ars t 1 (records Arcs ars)) (a .0);
         some-term = some-in (term-list ts t (records Terms ts)) b;
         few-terms = few (c .transitions) (c .lines) ts t (records Terms ts) terms-right;
-        each-term = term-right t
+        each-term = term-right t;
       }
 
   raise-right : (p : ℕ) → p < c .places → within (getD (said .raises) p 0) (below (c .outputs)) ≡ true
@@ -201,6 +201,6 @@ module _ (c : Counts) (ps ars ts : List ℕ) (whole : records Places ps ≡ c .p
         raises-of-each = length-map-counting (λ i. place-record ps i .raise) 0 (c .places);
         raises-of-the-net = raise-right;
         each-transition = λ t h. let inside : t < c .transitions = omega (arith, long) in
-          subst (WellFormedTransition said) (sym (here t inside))
-          (transition-right t (ap (λ x. transition-broken x t) (sym (here t inside)) ∙ none-at (λ i. transition-broken (at said i) i) (length (said .transitions)) transitions-right t h))
+            subst (WellFormedTransition said) (sym (here t inside))
+            (transition-right t (ap (λ x. transition-broken x t) (sym (here t inside)) ∙ none-at (λ i. transition-broken (at said i) i) (length (said .transitions)) transitions-right t h));
       }

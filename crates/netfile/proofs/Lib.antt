@@ -8,3 +8,4 @@ pub mod Sketch
 pub mod Agreement
 pub mod Lawful
 pub mod Whole
+pub mod Says

@@ -45,7 +45,7 @@ module _ (c : Counts) (ps ars ts : List ℕ) where
         outputs = c .outputs;
         start = start-places ps i;
         raises = map (raised i) (counting 0 (c .places));
-        transitions = map (transition-said ars ts j k) (counting 0 (c .transitions))
+        transitions = map (transition-said ars ts j k) (counting 0 (c .transitions));
       }
 
   -- with other start places, raise words and transitions
@@ -109,7 +109,7 @@ module _ (c : Counts) (ps ars ts : List ℕ) where
     arc-elsewhere : (k t : ℕ) → (t ≡ arc-record ars j .transition → ⊥) → transition-said ars ts j k t ≡ transition-said ars ts (suc j) k t
     arc-elsewhere k t ne =
         let no-arc : (kind : ℕ) → is-of t kind ≡ false
-              = λ kind. and-left (eqb (arc-record ars j .transition) t) (eqb (arc-record ars j .kind) kind) (ne-eqb (arc-record ars j .transition) t (λ e. ne (sym e))) in
+        = λ kind. and-left (eqb (arc-record ars j .transition) t) (eqb (arc-record ars j .kind) kind) (ne-eqb (arc-record ars j .transition) t (λ e. ne (sym e))) in
         same-parts (term-list ts t k) (no-more t 0 (no-arc 0)) (no-more t 1 (no-arc 1)) (no-more t 2 (no-arc 2)) (no-more t 3 (no-arc 3))
 
     module _ (k : ℕ) (small : arc-record ars j .place < 64) where

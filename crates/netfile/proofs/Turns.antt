@@ -16,9 +16,10 @@ Well put wrong n i m = (m ≡ put-below put n i) × (wrong-below put wrong n i �
 
 module _ (put : Net → ℕ → Net) (wrong : Net → ℕ → List Refusal) (n : Net) (i : ℕ) (was : Net) (well : Well put wrong n i was) where
   pub turn-on : (is : Net) → None ≡ first-of (wrong was i) → is ≡ put was i → Well put wrong n (i + 1) is
-  turn-on is right e =
-      (rw add-one (e ∙ ap (λ m. put m i) (well .0)),
-      none-more (λ j. wrong (put-below put n j) j) i (well .1) (ap (λ m. first-of (wrong m i)) (sym (well .0)) ∙ sym right))
+  turn-on is right e = (
+    rw add-one (e ∙ ap (λ m. put m i) (well .0)),
+    none-more (λ j. wrong (put-below put n j) j) i (well .1) (ap (λ m. first-of (wrong m i)) (sym (well .0)) ∙ sym right),
+  )
 
   pub turn-out : (k : ℕ) (r : Refusal) → i < k → Some r ≡ first-of (wrong was i) → Some r ≡ first-of (wrong-below put wrong n k)
   turn-out k r h e =

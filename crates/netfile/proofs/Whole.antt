@@ -25,9 +25,11 @@ use Rattle.netfile.specs.declared.refusal.Refusal.the-variants.{Pair, Count, P
 use Rattle.netfile.specs.declared.table.Table.the-variants.{Places, Arcs, Terms}
 use Rattle.netfile.specs.Files.{places-said, transitions-said, lines-said, outputs-said, table-start, table-length, table-end, earliest, table-in, records, net-said, net-in}
 use Rattle.netfile.specs.Rules.{where-broken, none-in, size-broken, pair-broken, pairs-broken, counts-broken, tables-broken, records-broken, unless-any, broken}
+use Rattle.netfile.specs.Says.{Says}
 use Rattle.netfile.specs.Steps.{filled-net, filling-wrong}
 use Rattle.netfile.proofs.Agreement.{filling-agrees, filled-is}
 use Rattle.netfile.proofs.Lawful.{arcs-right, terms-right, well-formed}
+use Rattle.netfile.proofs.Says.{says}
 use Rattle.netfile.proofs.Lists.{none-first, both-empty, first-joined, first-past, kept-rule, kept-last}
 
 -- what the layout breaks comes first of all
@@ -74,8 +76,8 @@ module _ (file : List ℕ) (c : Counts) (tells : Tells c file)
       let all = both-empty (map Count (out-of-range (places-said file) (transitions-said file) (lines-said file) (outputs-said file))) _ (none-first (counts-broken file) counts) .1 in
       let same = eqb-true (table-length file Places) (5 * places-said file) (not-false (eqb (table-length file Places) (5 * places-said file)) (kept-last (not (eqb (table-length file Places) (5 * places-said file))) PlacesLength all)) in
       let long : length (table-in file Places) ≡ table-length file Places
-            = length-take (table-length file Places) (drop (table-start file Places) file)
-              ∙ ap (min (table-length file Places)) (length-drop (table-start file Places) file) ∙ omega (arith, inside) in
+      = length-take (table-length file Places) (drop (table-start file Places) file)
+      ∙ ap (min (table-length file Places)) (length-drop (table-start file Places) file) ∙ omega (arith, inside) in
       omega (arith, long, same, tells .places)
 
   pub broken-is : broken file ≡ counts-broken file ++ records-broken file
@@ -118,14 +120,15 @@ pub record Promised (file : List ℕ) (r : Result StoredNet Refusal) : Type 0 wh
   pub refused : errPart r ≡ first-of (broken file)
   pub accepted : isOk r ≡ none-in (broken file)
   pub granted : made r (λ n. net-of n ≡ net-in file)
+  pub said : made r (λ n. Says file (net-of n))
   pub lawful : made r (λ n. WellFormed (net-of n))
 
 pub promised : (file : List ℕ) (r : Result StoredNet Refusal) → errPart r ≡ first-of (broken file)
     → made r (λ n. (first-of (broken file) ≡ None → net-of n ≡ net-in file) × (first-of (broken file) ≡ None → WellFormed (net-in file))) → Promised file r
 promised file (Ok n) e h =
     let same = h .0 (sym e) in
-    record { refused = e; accepted = accepted-from (Ok n) (broken file) e; granted = same; lawful = subst WellFormed (sym same) (h .1 (sym e)) }
-promised file (Err x) e h = record { refused = e; accepted = accepted-from (Err x) (broken file) e; granted = tt; lawful = tt }
+    record { refused = e; accepted = accepted-from (Ok n) (broken file) e; granted = same; said = subst (Says file) (sym same) (says file); lawful = subst WellFormed (sym same) (h .1 (sym e)) }
+promised file (Err x) e h = record { refused = e; accepted = accepted-from (Err x) (broken file) e; granted = tt; said = tt; lawful = tt }
 
 -- what the counts break comes first, where the layout breaks nothing
 pub counts-first : (file : List ℕ) (x : Refusal) → first-of (unless-any (size-broken file) (pairs-broken file)) ≡ None → first-of (counts-broken file) ≡ Some x → first-of (broken file) ≡ Some x

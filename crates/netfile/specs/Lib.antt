@@ -3,3 +3,4 @@ pub mod Codes
 pub mod Files
 pub mod Rules
 pub mod Steps
+pub mod Says

@@ -2,6 +2,7 @@
 ghost use mathlib.Core.Path.{_≡_};
 ghost use Rattle.netfile.specs.Files.{net-in};
 ghost use Rattle.netfile.specs.Rules.{broken, none-in};
+ghost use Rattle.netfile.specs.Says.{Says};
 ghost use Rattle.netfile.specs.Steps.{filled-net, filling-wrong};
 ghost use Rattle.nets.specs.Ranges.{first-of};
 ghost use Rattle.nets.specs.Stored.{net-of, blank-net};
@@ -37,6 +38,7 @@ pub fn read(file: &[u8]) -> Result<Net, Refusal>
     ensures refused { λ r. ⌜ errPart r ≡ first-of (broken (now (file .entry))) ⌝ }
     ensures accepted { λ r. ⌜ isOk r ≡ none-in (broken (now (file .entry))) ⌝ }
     ensures granted { λ r. ⌜ made r (λ n. net-of n ≡ net-in (now (file .entry))) ⌝ }
+    ensures said { λ r. ⌜ made r (λ n. Says (now (file .entry)) (net-of n)) ⌝ }
     ensures lawful { λ r. ⌜ made r (λ n. WellFormed (net-of n)) ⌝ }
 {
     let tables = tables_in(file)?;

@@ -11,22 +11,22 @@ pub returns-in-Break-tables : need.returns-in-Break-tables
 returns-in-Break-tables c =
     let p = err-from-errBy (c .from-residual .result) (c .from-residual .ensures .1) in
     let file = c .args .file .now in
-    let said = promised file (c .from-residual .result)
-          (ap errPart (p .1)
-          ∙ sym (layout-first (size-broken file) (pairs-broken file) (counts-broken file ++ records-broken file) (p .0)
-          (sym (c .in-Break-tables .ensures tt .refused) ∙ ap Some (sym (p .2)))))
-          (made-from-err (c .from-residual .result) _ (ap isErr (p .1))) in
-    record { refused = said .refused; accepted = said .accepted; granted = said .granted; lawful = said .lawful }
+    let all = promised file (c .from-residual .result)
+    (ap errPart (p .1)
+    ∙ sym (layout-first (size-broken file) (pairs-broken file) (counts-broken file ++ records-broken file) (p .0)
+    (sym (c .in-Break-tables .ensures tt .refused) ∙ ap Some (sym (p .2)))))
+    (made-from-err (c .from-residual .result) _ (ap isErr (p .1))) in
+    record { refused = all .refused; accepted = all .accepted; granted = all .granted; said = all .said; lawful = all .lawful }
 
 pub returns-in-Break-counts : need.returns-in-Break-counts
 returns-in-Break-counts c =
     let p = err-from-errBy (c .from-residual-in-Break-counts .result) (c .from-residual-in-Break-counts .ensures .1) in
-    let said = promised (c .args .file .now) (c .from-residual-in-Break-counts .result)
-          (ap errPart (p .1)
-          ∙ sym (counts-first (c .args .file .now) (p .0) (sym (c .in-Continue-tables .ensures tt .refused))
-          (sym (c .in-Break-counts .ensures tt .refused) ∙ ap Some (sym (p .2)))))
-          (made-from-err (c .from-residual-in-Break-counts .result) _ (ap isErr (p .1))) in
-    record { refused = said .refused; accepted = said .accepted; granted = said .granted; lawful = said .lawful }
+    let all = promised (c .args .file .now) (c .from-residual-in-Break-counts .result)
+    (ap errPart (p .1)
+    ∙ sym (counts-first (c .args .file .now) (p .0) (sym (c .in-Continue-tables .ensures tt .refused))
+    (sym (c .in-Break-counts .ensures tt .refused) ∙ ap Some (sym (p .2)))))
+    (made-from-err (c .from-residual-in-Break-counts .result) _ (ap isErr (p .1))) in
+    record { refused = all .refused; accepted = all .accepted; granted = all .granted; said = all .said; lawful = all .lawful }
 
 pub returns : need.returns
 returns c =
@@ -34,7 +34,7 @@ returns c =
     let t = c .in-Continue-tables .ensures tt in
     let k = c .in-Continue-counts .ensures tt in
     let tells : Tells (c .in-Continue-counts .counts) file
-          = record { places = k .granted .0; transitions = k .granted .1; lines = k .granted .2; outputs = k .granted .3 } in
-    let said = finished file (c .in-Continue-counts .counts) tells (sym (t .refused)) (sym (k .refused))
-          _ _ _ (t .granted .1) (t .granted .2) (t .granted .3) (c .filled .result) (c .filled .ensures .refused) (c .filled .ensures .granted) in
-    record { refused = said .refused; accepted = said .accepted; granted = said .granted; lawful = said .lawful }
+    = record { places = k .granted .0; transitions = k .granted .1; lines = k .granted .2; outputs = k .granted .3 } in
+    let all = finished file (c .in-Continue-counts .counts) tells (sym (t .refused)) (sym (k .refused))
+    _ _ _ (t .granted .1) (t .granted .2) (t .granted .3) (c .filled .result) (c .filled .ensures .refused) (c .filled .ensures .granted) in
+    record { refused = all .refused; accepted = all .accepted; granted = all .granted; said = all .said; lawful = all .lawful }

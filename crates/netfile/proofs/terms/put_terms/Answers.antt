@@ -16,12 +16,12 @@ returns-in-Break-put-term c =
     let broken = c .in-Break-put-term .ensures tt .refused in
     record {
       refused =
-        ap errPart (p .1)
-        ∙ turn-out (put-term (c .args .table .now)) (λ m i. term-wrong m (term-record (c .args .table .now) i) i)
-        (net-of (c .args .net .now)) (c .loop-i .i) (net-of (c .loop-i .net)) (c .loop-i .inv) _ (p .0)
-        (subst (λ (n : ℕ). c .loop-i .i < n) (c .record-count-i-end .ensures) (c .loop-i-test .taken))
-        (ap Some (p .2) ∙ broken ∙ ap (λ x. first-of (term-wrong (net-of (c .loop-i .net)) x (c .loop-i .i))) (c .term-at .ensures));
-      granted = made-from-err (c .from-residual .result) _ (ap isErr (p .1))
+          ap errPart (p .1)
+          ∙ turn-out (put-term (c .args .table .now)) (λ m i. term-wrong m (term-record (c .args .table .now) i) i)
+          (net-of (c .args .net .now)) (c .loop-i .i) (net-of (c .loop-i .net)) (c .loop-i .inv) _ (p .0)
+          (subst (λ (n : ℕ). c .loop-i .i < n) (c .record-count-i-end .ensures) (c .loop-i-test .taken))
+          (ap Some (p .2) ∙ broken ∙ ap (λ x. first-of (term-wrong (net-of (c .loop-i .net)) x (c .loop-i .i))) (c .term-at .ensures));
+      granted = made-from-err (c .from-residual .result) _ (ap isErr (p .1));
     }
 
 pub loop-i-again : need.loop-i-again
