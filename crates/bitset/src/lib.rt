@@ -1,6 +1,7 @@
 // Words as sets of numbers, and the set of places.
 ghost use Rattle.bitset.specs.Laws.{Set-laws};
 
+mod bits;
 mod place_set;
 pub mod words;
 

@@ -5,6 +5,7 @@ ghost use lib.Bits.{bitAnd, bitOr};
 ghost use lib.Dec.{eqb};
 ghost use Rattle.bitset.specs.Places.{places-in, with-place, lowest-in, how-many};
 ghost use Rattle.bitset.specs.Sets.{has as has-member, within, apart, without as taken-away};
+use crate::bits;
 
 #[derive(Clone, Copy, PartialEq, Eq, Debug)]
 pub struct PlaceSet {
@@ -26,21 +27,23 @@ impl PlaceSet {
     pub fn from_word(word: u64) -> PlaceSet
         ensures { λ r. ⌜ places-in r ≡ word ⌝ }
     {
-        PlaceSet { word }
+        let places = word;
+        PlaceSet { word: places }
     }
 
     // The word in which the bits of its places are 1.
     pub fn word(self) -> u64
         ensures { λ r. ⌜ r ≡ places-in self ⌝ }
     {
-        self.word
+        let PlaceSet { word } = self;
+        word
     }
 
     // Whether `place` is in the set.
     pub fn has(self, place: usize) -> bool
         ensures { λ r. ⌜ r ≡ has-member (places-in self) place ⌝ }
     {
-        place < Self::ROOM && self.word >> place & 1 == 1
+        bits::has(self.word, place)
     }
 
     // Whether no place is in the set.
@@ -54,70 +57,59 @@ impl PlaceSet {
     pub fn includes(self, part: PlaceSet) -> bool
         ensures { λ r. ⌜ r ≡ within (places-in part) (places-in self) ⌝ }
     {
-        part.word & self.word == part.word
+        bits::within(part.word, self.word)
     }
 
     // Whether some place is in both sets.
     pub fn meets(self, other: PlaceSet) -> bool
         ensures { λ r. ⌜ r ≡ not (apart (places-in self) (places-in other)) ⌝ }
     {
-        self.word & other.word != 0
+        !bits::apart(self.word, other.word)
     }
 
     // The set and `place`; the set as it is where there is no room for such a place.
     pub fn with(self, place: usize) -> PlaceSet
         ensures { λ r. ⌜ places-in r ≡ with-place (places-in self) place ⌝ }
     {
-        if place < Self::ROOM {
-            PlaceSet {
-                word: self.word | 1 << place,
-            }
-        } else {
-            self
-        }
+        let word = bits::with(self.word, place);
+        PlaceSet { word }
     }
 
     // The places of either set.
     pub fn union(self, other: PlaceSet) -> PlaceSet
         ensures { λ r. ⌜ places-in r ≡ bitOr (places-in self) (places-in other) ⌝ }
     {
-        PlaceSet {
-            word: self.word | other.word,
-        }
+        let word = self.word | other.word;
+        PlaceSet { word }
     }
 
     // The places of both sets.
     pub fn common(self, other: PlaceSet) -> PlaceSet
         ensures { λ r. ⌜ places-in r ≡ bitAnd (places-in self) (places-in other) ⌝ }
     {
-        PlaceSet {
-            word: self.word & other.word,
-        }
+        let word = self.word & other.word;
+        PlaceSet { word }
     }
 
     // The places that are not in `other`.
     pub fn without(self, other: PlaceSet) -> PlaceSet
         ensures { λ r. ⌜ places-in r ≡ taken-away (places-in self) (places-in other) ⌝ }
     {
-        PlaceSet {
-            word: self.word & !other.word,
-        }
+        let word = bits::without(self.word, other.word);
+        PlaceSet { word }
     }
 
     // The lowest place of the set.
     pub fn lowest(self) -> Option<usize>
         ensures { λ r. ⌜ r ≡ lowest-in (places-in self) ⌝ }
     {
-        if self.word == 0 {
-            return None;
-        }
-        Some(self.word.trailing_zeros() as usize)
+        bits::lowest(self.word)
     }
 
     // How many places the set has.
     pub fn count(self) -> usize
         ensures { λ r. ⌜ r ≡ how-many (places-in self) ⌝ }
     {
-        self.word.count_ones() as usize
+        bits::count(self.word)
     }
 }

@@ -1,27 +1,28 @@
 // Words of 32 bits as sets of lines or of outputs.
 ghost use Prim.Native.Nat.{min};
 ghost use mathlib.Core.Path.{_≡_};
-ghost use Rattle.bitset.specs.Sets.{has, within, apart, below as all-below};
+ghost use Rattle.bitset.specs.Sets.{has as has-member, within as is-within, apart as is-apart, below as all-below};
+use crate::bits;
 
 // Whether number `n` is in `word`; none above 31 is.
 pub fn has(word: u32, n: usize) -> bool
-    ensures { λ r. ⌜ r ≡ has word n ⌝ }
+    ensures { λ r. ⌜ r ≡ has-member word n ⌝ }
 {
-    n < 32 && word >> n & 1 == 1
+    bits::has(u64::from(word), n)
 }
 
 // Whether each number in `part` is in `whole`.
 pub fn within(part: u32, whole: u32) -> bool
-    ensures { λ r. ⌜ r ≡ within part whole ⌝ }
+    ensures { λ r. ⌜ r ≡ is-within part whole ⌝ }
 {
-    part & whole == part
+    bits::within(u64::from(part), u64::from(whole))
 }
 
 // Whether the two have no number in common.
 pub fn apart(one: u32, other: u32) -> bool
-    ensures { λ r. ⌜ r ≡ apart one other ⌝ }
+    ensures { λ r. ⌜ r ≡ is-apart one other ⌝ }
 {
-    one & other == 0
+    bits::apart(u64::from(one), u64::from(other))
 }
 
 // The set of all numbers below `count`, of which a word has room for 32.

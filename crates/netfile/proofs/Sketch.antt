@@ -59,6 +59,9 @@ module _ (c : Counts) (ps ars ts : List ℕ) where
   pub sketch-at : (i j k t : ℕ) → t < c .transitions → at (sketch i j k) t ≡ transition-said ars ts j k t
   sketch-at i j k t h = counted-at (transition-said ars ts j k) (c .transitions) t unconnected h
 
+  within-sketch : (i j k t : ℕ) → t < c .transitions → ltb t (length (sketch i j k .transitions)) ≡ true
+  within-sketch i j k t h = lt-ltb t (length (sketch i j k .transitions)) (let l = sketch-long i j k in omega arith)
+
   pub sketch-blank : blank-net c ≡ sketch 0 0 0
   sketch-blank =
       ap₂ (parts 0) (counted-all (raised 0) 0 (c .places) (λ q. ap (λ b. cond b (place-record ps q .raise) 0) (le-ltb q 0 (omega arith)))) (counted-all (transition-said ars ts 0 0) unconnected (c .transitions) (λ t. refl))
@@ -68,17 +71,16 @@ module _ (c : Counts) (ps ars ts : List ℕ) where
   place-step : (i : ℕ) → i < c .places → with-place-put (sketch i 0 0) i (place-record ps i) ≡ sketch (suc i) 0 0
   place-step i h =
       let small = c .«places_in_range» in
-      let inside = lt-ltb i (c .places) h in
-      let room = lt-ltb i 64 (omega arith) in
-      ap₂ (λ s r. parts s r (sketch i 0 0 .transitions))
-      (start (eqb (place-record ps i .mark) 1) (ltb i (c .places)) (ltb i 64) inside room)
-      (counted-set (raised i) (raised (suc i)) (c .places) i (place-record ps i .raise) h (sym (ap (λ b. cond b (place-record ps i .raise) 0) (lt-ltb i (suc i) (omega arith))))
-      (λ q ne. grind (arith, tells)))
+      cond-true (ltb i (c .places)) _ _ (lt-ltb i (c .places) h)
+      ∙ ap₂ (λ s r. parts s r (sketch i 0 0 .transitions))
+      (start (eqb (place-record ps i .mark) 1) (ltb i 64) (lt-ltb i 64 (omega arith)))
+      (counted-set (raised i) (raised (suc i)) (c .places) i (place-record ps i .raise) h
+      (sym (ap (λ b. cond b (place-record ps i .raise) 0) (lt-ltb i (suc i) (omega arith)))) (λ q ne. grind (arith, tells)))
     where
-      start : (a b d : Bool) → b ≡ true → d ≡ true
-          → cond (a && b) (cond d (bitOr (start-places ps i) (only i)) (start-places ps i)) (start-places ps i)
+      start : (a d : Bool) → d ≡ true
+          → cond a (cond d (bitOr (start-places ps i) (only i)) (start-places ps i)) (start-places ps i)
           ≡ cond a (bitOr (start-places ps i) (only i)) (start-places ps i)
-      start a b d e f = grind arith
+      start a d f = grind arith
 
   pub places-sketch : (i : ℕ) → i ≤ c .places → put-below (put-place ps) (blank-net c) i ≡ sketch i 0 0
   places-sketch zero h = sketch-blank
@@ -147,7 +149,9 @@ module _ (c : Counts) (ps ars ts : List ℕ) where
       let kind = kind-of (arc-record ars j .kind) (kept .kind) in
       let t = arc-record ars j .transition in
       ap (with-arc-as (sketch i j k) (arc-record ars j)) (kind .2)
-      ∙ cond-true (ltb (arc-record ars j .place) (c .places)) _ _ (lt-ltb (arc-record ars j .place) (c .places) (kept .place))
+      ∙ cond-true (ltb t (length (sketch i j k .transitions)) && ltb (arc-record ars j .place) (c .places)) _ _
+      (and-from (ltb t (length (sketch i j k .transitions))) (ltb (arc-record ars j .place) (c .places)) (within-sketch i j k t (kept .transition))
+      (lt-ltb (arc-record ars j .place) (c .places) (kept .place)))
       ∙ ap (parts (start-places ps i) (sketch i j k .raises))
       (ap (λ x. set (sketch i j k .transitions) t (with-arc x (kind .0) (arc-record ars j .place))) (sketch-at i j k t (kept .transition))
       ∙ counted-set (transition-said ars ts j k) (transition-said ars ts (suc j) k) (c .transitions) t _ (kept .transition)
@@ -178,7 +182,8 @@ module _ (c : Counts) (ps ars ts : List ℕ) where
       → with-term-put (sketch i j k) (term-record ts k) ≡ sketch i j (suc k)
   term-step i j k kept =
       let t = term-record ts k .transition in
-      ap (parts (start-places ps i) (sketch i j k .raises))
+      cond-true (ltb t (length (sketch i j k .transitions))) _ _ (within-sketch i j k t (kept .transition))
+      ∙ ap (parts (start-places ps i) (sketch i j k .raises))
       (ap (λ x. set (sketch i j k .transitions) t (given-term x (term-record ts k .term))) (sketch-at i j k t (kept .transition))
       ∙ counted-set (transition-said ars ts j k) (transition-said ars ts j (suc k)) (c .transitions) t _ (kept .transition)
       (term-here j k (kept .few)) (λ q ne. term-elsewhere j k q ne))

@@ -19,7 +19,7 @@ use Rattle.nets.specs.declared.term.Term.{Term}
 use Rattle.nets.specs.declared.terms.Terms.{Terms}
 use Rattle.nets.specs.declared.transition.Transition.{Transition as StoredTransition}
 use Rattle.nets.specs.Nets.{Net, Transition, unconnected, at}
-use Rattle.nets.specs.Stored.{terms-in, transition-of, net-of, with-transition, with-place-record, net-with-arc, with-arc, blank-net}
+use Rattle.nets.specs.Stored.{terms-in, transition-of, net-of, with-transition, with-raise, blank-net}
 
 -- LISTS
 
@@ -48,10 +48,6 @@ length-transitions n =
 pub length-raises : (n : StoredNet) → length (net-of n .raises) ≡ n .counts .places
 length-raises n = length-take-le (n .counts .places) (n .raises) (let f = n .counts .«places_in_range» in let r = n .«raises_room» in omega arith)
 
--- a transition that the net lacks is put nowhere
-pub nowhere : (n : StoredNet) (t : ℕ) (x : Transition) → n .counts .transitions ≤ t → with-transition (net-of n) t x ≡ net-of n
-nowhere n t x h = rw (set-past (net-of n .transitions) t x (let l = length-transitions n in omega arith)) refl
-
 -- transition t of the net that is held
 pub at-held : (n : StoredNet) (t : ℕ) (d : StoredTransition) → t < n .counts .transitions → at (net-of n) t ≡ transition-of (getD (n .transitions) t d)
 at-held n t d h =
@@ -77,43 +73,19 @@ refilled n start raises transitions =
       transitions = transitions;
     }
 
--- a place that the net lacks is put nowhere
-pub no-place : (n : StoredNet) (p : ℕ) (starts : Bool) (w : ℕ) → n .counts .places ≤ p → net-of n ≡ with-place-record (net-of n) p starts w
-no-place n p starts w h =
-    ap (λ s. refilled n s (net-of n .raises) (net-of n .transitions)) (sym (same starts (ltb p (n .counts .places)) (le-ltb p (n .counts .places) h)))
-    ∙ ap (λ r. refilled n (cond (starts && ltb p (n .counts .places)) (with-place (net-of n .start) p) (net-of n .start)) r (net-of n .transitions))
-    (sym (set-past (net-of n .raises) p w (let l = length-raises n in omega arith)))
-  where
-    same : (a b : Bool) → b ≡ false → cond (a && b) (with-place (net-of n .start) p) (net-of n .start) ≡ net-of n .start
-    same a b e = grind arith
-
-pub place-put : (n : StoredNet) (p : ℕ) (starts : Bool) (w s : ℕ) → p < n .counts .places
+-- the start places and what place p raises changed
+pub place-put : (n : StoredNet) (p : ℕ) (starts : Bool) (w s : ℕ)
     → s ≡ cond starts (with-place (net-of n .start) p) (net-of n .start)
-    → refilled n s (take (n .counts .places) (set (n .raises) p w)) (net-of n .transitions) ≡ with-place-record (net-of n) p starts w
-place-put n p starts w s h e =
+    → refilled n s (take (n .counts .places) (set (n .raises) p w)) (net-of n .transitions) ≡ with-raise (net-of n) p starts w
+place-put n p starts w s e =
     ap (λ r. refilled n s r (net-of n .transitions)) (take-set (n .counts .places) (n .raises) p w)
-    ∙ ap (λ x. refilled n x (set (net-of n .raises) p w) (net-of n .transitions)) (e ∙ same starts (ltb p (n .counts .places)) (lt-ltb p (n .counts .places) h))
-  where
-    same : (a b : Bool) → b ≡ true → cond a (with-place (net-of n .start) p) (net-of n .start) ≡ cond (a && b) (with-place (net-of n .start) p) (net-of n .start)
-    same a b f = grind arith
+    ∙ ap (λ x. refilled n x (set (net-of n .raises) p w) (net-of n .transitions)) e
 
--- transition t changed in place
-pub transition-put : (n : StoredNet) (t : ℕ) (d is : StoredTransition) (f : Transition → Transition) → t < n .counts .transitions
-    → transition-of is ≡ f (transition-of (getD (n .transitions) t d))
-    → refilled n (net-of n .start) (net-of n .raises) (map transition-of (take (n .counts .transitions) (set (n .transitions) t is)))
-    ≡ with-transition (net-of n) t (f (at (net-of n) t))
-transition-put n t d is f h g =
-    ap (refilled n (net-of n .start) (net-of n .raises)) (put-held n t is)
-    ∙ ap (with-transition (net-of n) t) (g ∙ ap f (sym (at-held n t d h)))
-
--- an arc of a transition or to a place that the net lacks is put nowhere
-pub no-arc : (n : StoredNet) (t : ℕ) (kind : ArcKind) (p : ℕ) → (n .counts .transitions ≤ t) ⊎ (n .counts .places ≤ p) → net-of n ≡ net-with-arc (net-of n) t kind p
-no-arc n t kind p (inl h) = same (ltb p (n .counts .places))
-  where
-    same : (b : Bool) → net-of n ≡ cond b (with-transition (net-of n) t (with-arc (at (net-of n) t) kind p)) (net-of n)
-    same true = sym (nowhere n t (with-arc (at (net-of n) t) kind p) h)
-    same false = refl
-no-arc n t kind p (inr h) = rw (le-ltb p (n .counts .places) h) refl
+-- transition t changed
+pub transition-put : (n : StoredNet) (t : ℕ) (x : StoredTransition)
+    → refilled n (net-of n .start) (net-of n .raises) (map transition-of (take (n .counts .transitions) (set (n .transitions) t x)))
+    ≡ with-transition (net-of n) t (transition-of x)
+transition-put n t x = ap (refilled n (net-of n .start) (net-of n .raises)) (put-held n t x)
 
 -- a net of which nothing is filled
 pub nothing-filled : (c : Counts) (start : PlaceSet) (u : StoredTransition) → places-in start ≡ 0 → transition-of u ≡ unconnected

@@ -1,8 +1,8 @@
 -- How many places, transitions, lines and outputs a net may have.
-use mathlib.Core.Bool.{Bool, cond, _||_}
+use mathlib.Core.Bool.{Bool, cond, _&&_}
 use mathlib.Core.List.{List, [], _∷_, _++_}
 use Prim.Native.Nat.{ℕ}
-use lib.Dec.{eqb, ltb}
+use lib.Dec.{leb}
 use Rattle.std.specs.declared.option.Option.{Option}
 use Rattle.std.specs.declared.option.Option.the-variants.{None, Some}
 use Rattle.nets.specs.declared.quantity.Quantity.{Quantity}
@@ -15,9 +15,13 @@ most Transitions = 64
 most Lines = 32
 most Outputs = 32
 
--- the quantity, where the count is 0 or above the most
+-- whether a net may have so many: one at least
+abbrev pub in-range : Quantity → ℕ → Bool
+in-range q n = leb 1 n && leb n (most q)
+
+-- the quantity, where a net may not have so many
 abbrev pub unless-in-range : Quantity → ℕ → List Quantity
-unless-in-range q n = cond (eqb n 0 || ltb (most q) n) (q ∷ []) []
+unless-in-range q n = cond (in-range q n) [] (q ∷ [])
 
 -- the quantities whose counts are out of range, in this order
 abbrev pub out-of-range : ℕ → ℕ → ℕ → ℕ → List Quantity

@@ -88,20 +88,25 @@ with-transition n t x =
 
 -- the net with an arc between transition t and place p, where it has both
 abbrev pub net-with-arc : Net → ℕ → ArcKind → ℕ → Net
-net-with-arc n t kind p = cond (ltb p (n .places)) (with-transition n t (with-arc (at n t) kind p)) n
+net-with-arc n t kind p =
+    cond (ltb t (length (n .transitions)) && ltb p (n .places)) (with-transition n t (with-arc (at n t) kind p)) n
 
--- the net with one term more in the condition of transition t
+-- the net with one term more in the condition of transition t, where it has that
 abbrev pub net-with-term : Net → ℕ → Term → Net
-net-with-term n t x = with-transition n t (given-term (at n t) x)
+net-with-term n t x = cond (ltb t (length (n .transitions))) (with-transition n t (given-term (at n t) x)) n
 
 -- the net in which place p raises this word, and is a start place if it starts marked
-abbrev pub with-place-record : Net → ℕ → Bool → ℕ → Net
-with-place-record n p starts word =
+abbrev pub with-raise : Net → ℕ → Bool → ℕ → Net
+with-raise n p starts word =
     record {
       places = n .places;
       lines = n .lines;
       outputs = n .outputs;
-      start = cond (starts && ltb p (n .places)) (with-place (n .start) p) (n .start);
+      start = cond starts (with-place (n .start) p) (n .start);
       raises = set (n .raises) p word;
       transitions = n .transitions;
     }
+
+-- the same, where the net has the place
+abbrev pub with-place-record : Net → ℕ → Bool → ℕ → Net
+with-place-record n p starts word = cond (ltb p (n .places)) (with-raise n p starts word) n

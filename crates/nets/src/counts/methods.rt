@@ -17,16 +17,16 @@ impl Counts {
         ensures refused { λ r. ⌜ errPart r ≡ first-of (out-of-range places transitions lines outputs) ⌝ }
         ensures granted { λ r. ⌜ made r (λ c. (c .places ≡ places) × (c .transitions ≡ transitions) × (c .lines ≡ lines) × (c .outputs ≡ outputs)) ⌝ }
     {
-        if places == 0 || places > 64 {
+        if !Quantity::Places.admits(places) {
             return Err(Quantity::Places);
         }
-        if transitions == 0 || transitions > 64 {
+        if !Quantity::Transitions.admits(transitions) {
             return Err(Quantity::Transitions);
         }
-        if lines == 0 || lines > 32 {
+        if !Quantity::Lines.admits(lines) {
             return Err(Quantity::Lines);
         }
-        if outputs == 0 || outputs > 32 {
+        if !Quantity::Outputs.admits(outputs) {
             return Err(Quantity::Outputs);
         }
         Ok(Counts {

@@ -5,7 +5,7 @@ ghost use mathlib.Core.Path.{_≡_};
 ghost use lib.ListN.{length};
 ghost use Rattle.bitset.specs.Places.{places-in};
 ghost use Rattle.nets.specs.Nets.{at};
-ghost use Rattle.nets.specs.Stored.{net-of, blank-net, net-with-arc, net-with-term, with-place-record, transition-of};
+ghost use Rattle.nets.specs.Stored.{net-of, blank-net, net-with-arc, net-with-term, with-place-record, with-raise, with-transition, transition-of};
 ghost use Rattle.std.specs.Options.{Cases};
 use super::Net;
 use crate::arc_kind::ArcKind;
@@ -72,12 +72,8 @@ impl Net {
     pub fn set_place(&mut self, place: usize, starts: bool, raise: u32)
         ensures { λ _. ⌜ net-of (now (self .exit)) ≡ with-place-record (net-of (now (self .entry))) place starts raise ⌝ }
     {
-        if place >= self.counts.places {
-            return;
-        }
-        self.raises[place] = raise;
-        if starts {
-            self.start = self.start.with(place);
+        if place < self.counts.places {
+            self.put_place(place, starts, raise);
         }
     }
 
@@ -85,23 +81,44 @@ impl Net {
     pub fn add_arc(&mut self, transition: usize, kind: ArcKind, place: usize)
         ensures { λ _. ⌜ net-of (now (self .exit)) ≡ net-with-arc (net-of (now (self .entry))) transition kind place ⌝ }
     {
-        if transition >= self.counts.transitions || place >= self.counts.places {
+        let Some(held) = self.transition(transition) else {
             return;
+        };
+        if place < self.counts.places {
+            let mut joined = *held;
+            joined.add_arc(kind, place);
+            self.put_transition(transition, joined);
         }
-        let mut held = self.transitions[transition];
-        held.add_arc(kind, place);
-        self.transitions[transition] = held;
     }
 
     // One term more; nothing changes where the net lacks the transition, or the transition has four.
     pub fn add_term(&mut self, transition: usize, term: Term)
         ensures { λ _. ⌜ net-of (now (self .exit)) ≡ net-with-term (net-of (now (self .entry))) transition term ⌝ }
     {
-        if transition >= self.counts.transitions {
+        let Some(held) = self.transition(transition) else {
             return;
+        };
+        let mut given = *held;
+        given.add_term(term);
+        self.put_transition(transition, given);
+    }
+
+    // Puts in what a place of the net raises, and whether it starts marked.
+    fn put_place(&mut self, place: usize, starts: bool, raise: u32)
+        requires { ⌜ place < net-of (now self) .places ⌝ }
+        ensures { λ _. ⌜ net-of (now (self .exit)) ≡ with-raise (net-of (now (self .entry))) place starts raise ⌝ }
+    {
+        self.raises[place] = raise;
+        if starts {
+            self.start = self.start.with(place);
         }
-        let mut held = self.transitions[transition];
-        held.add_term(term);
-        self.transitions[transition] = held;
+    }
+
+    // Puts in a transition of the net.
+    fn put_transition(&mut self, number: usize, transition: Transition)
+        requires { ⌜ number < length (net-of (now self) .transitions) ⌝ }
+        ensures { λ _. ⌜ net-of (now (self .exit)) ≡ with-transition (net-of (now (self .entry))) number (transition-of transition) ⌝ }
+    {
+        self.transitions[number] = transition;
     }
 }

@@ -1,7 +1,0 @@
-use mathlib.Core.Path.{refl}
-use Rattle.bitset.specs.Sets.{within}
-use Rattle.bitset.proofs.place_set.PlaceSet.includes.Needs as need
-
-pub returns : need.returns
-unfolding within
-returns c = refl

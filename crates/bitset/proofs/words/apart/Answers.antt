@@ -1,7 +1,0 @@
-use mathlib.Core.Path.{refl}
-use Rattle.bitset.specs.Sets.{apart}
-use Rattle.bitset.proofs.words.apart.Needs as need
-
-pub returns : need.returns
-unfolding apart
-returns c = refl

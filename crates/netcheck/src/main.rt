@@ -1,0 +1,83 @@
+// Says whether a net file keeps the rules: what is in it, or the first rule that it breaks.
+mod command;
+mod failure;
+mod net_text;
+mod nouns;
+mod reason;
+#[cfg(test)]
+mod tests;
+
+use command::Command;
+use command::HELP;
+use failure::Failure;
+use failure::FailureFromAlloc;
+use failure::FailureFromIo;
+use net_text::NetText;
+use net_text::NetTextDisplay;
+use netfile::Refusal;
+use nets::Net;
+use nouns::Counted;
+use nouns::CountedDisplay;
+use nouns::Noun;
+use reason::CodeText;
+use reason::CodeTextDisplay;
+use reason::Reason;
+use reason::ReasonDisplay;
+use std::env;
+use std::fs;
+use std::io;
+
+// The bytes of the file of this name; a missing file has none.
+fn contents(rt: &LibcRuntime, name: &str) -> Result<Vec<u8>, Failure> {
+    match fs::read(rt, name) {
+        Ok(bytes) => Ok(bytes),
+        Err(error) if matches!(error.kind(), io::ErrorKind::NotFound) => Ok(Vec::new(rt.alloc())),
+        Err(error) => Err(Failure::Unreadable {
+            name: String::from_str(rt.alloc(), name)?,
+            error,
+        }),
+    }
+}
+
+// Prints the net of an accepted file.
+fn accept(rt: &LibcRuntime, name: &str, size: Counted, net: &Net) -> io::Result<()> {
+    println!(rt, "{name}: {size}, accepted\n")?;
+    rt.print(NetText(net))
+}
+
+// Prints why a file is refused.
+fn refuse(rt: &LibcRuntime, name: &str, size: Counted, refusal: Refusal) -> io::Result<()> {
+    println!(rt, "{name}: {size}, refused")?;
+    rt.println(CodeText(refusal.code()))?;
+    rt.println(Reason { refusal, size })
+}
+
+// Checks the file of this name, and prints what was found.
+fn check(rt: &LibcRuntime, name: &str) -> Result<(), Failure> {
+    let bytes = contents(rt, name)?;
+    let size = Counted(bytes.len(), Noun::Byte);
+    match netfile::read(bytes.as_slice()) {
+        Ok(net) => Ok(accept(rt, name, size, &net)?),
+        Err(refusal) => {
+            refuse(rt, name, size, refusal)?;
+            Err(Failure::Refused)
+        }
+    }
+}
+
+// Does what the arguments ask for.
+fn run(rt: &LibcRuntime) -> Result<(), Failure> {
+    match Command::from_args(rt.alloc(), env::args(rt)?)? {
+        Command::Help => Ok(rt.print(HELP)?),
+        Command::Check(name) => check(rt, name.as_str()),
+    }
+}
+
+// Runs, and says on standard error what went wrong.
+fn main(rt: LibcRuntime) -> Result<(), Failure> {
+    let outcome = run(&rt);
+    if let Err(failure) = &outcome {
+        failure.report(&rt);
+    }
+    outcome
+}

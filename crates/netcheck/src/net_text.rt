@@ -1,0 +1,170 @@
+// What is in a net, in rows of three columns: subject, verb and object.
+use crate::nouns::Counted;
+use crate::nouns::CountedDisplay;
+use crate::nouns::Noun;
+use crate::nouns::Numbered;
+use crate::nouns::NumberedDisplay;
+use nets::Counts;
+use nets::Net;
+use nets::Term;
+use nets::Transition;
+use std::fmt;
+
+// What a row is about; further rows of the same leave it out.
+#[derive(Clone, Copy)]
+enum Subject {
+    Net,
+    Transition(usize),
+    Place(usize),
+    Same,
+}
+
+impl fmt::Display for Subject as SubjectDisplay {
+    fn fmt<W: fmt::Write>(&self, f: &mut fmt::Formatter<W>) -> fmt::Result {
+        match *self {
+            Subject::Net => write!(f, "{:<13}", "net"),
+            Subject::Transition(number) => write!(f, "transition {number:<2}"),
+            Subject::Place(number) => write!(f, "place {number:<7}"),
+            Subject::Same => write!(f, "{:<13}", ""),
+        }
+    }
+}
+
+// Writes one row.
+fn write_row<W: fmt::Write, D: fmt::Display + Drop>(
+    f: &mut fmt::Formatter<W>,
+    subject: Subject,
+    verb: &str,
+    object: D,
+) -> fmt::Result {
+    writeln!(f, "{subject}  {verb:<8}  {object}")
+}
+
+// How many of each a net has.
+#[derive(Clone, Copy)]
+struct CountsText(Counts);
+
+impl fmt::Display for CountsText as CountsTextDisplay {
+    fn fmt<W: fmt::Write>(&self, f: &mut fmt::Formatter<W>) -> fmt::Result {
+        let counts = self.0;
+        let places = Counted(counts.places, Noun::Place);
+        let transitions = Counted(counts.transitions, Noun::Transition);
+        let lines = Counted(counts.lines, Noun::Line);
+        let outputs = Counted(counts.outputs, Noun::Output);
+        write!(f, "{places}, {transitions}, {lines} and {outputs}")
+    }
+}
+
+// The level of a line.
+#[derive(Clone, Copy)]
+enum Level {
+    High,
+    Low,
+}
+
+impl fmt::Display for Level as LevelDisplay {
+    fn fmt<W: fmt::Write>(&self, f: &mut fmt::Formatter<W>) -> fmt::Result {
+        let word = match self {
+            Level::High => "high",
+            Level::Low => "low",
+        };
+        f.write_str(word)
+    }
+}
+
+// That lines are at a level, as `line 0 is high` or `lines 1 and 4 are low`.
+#[derive(Clone, Copy)]
+struct Levelled {
+    lines: Numbered,
+    level: Level,
+}
+
+impl fmt::Display for Levelled as LevelledDisplay {
+    fn fmt<W: fmt::Write>(&self, f: &mut fmt::Formatter<W>) -> fmt::Result {
+        let Levelled { lines, level } = *self;
+        match lines.count() {
+            1 => write!(f, "{lines} is {level}"),
+            _ => write!(f, "{lines} are {level}"),
+        }
+    }
+}
+
+// When a term holds.
+#[derive(Clone, Copy)]
+struct TermText(Term);
+
+impl fmt::Display for TermText as TermTextDisplay {
+    fn fmt<W: fmt::Write>(&self, f: &mut fmt::Formatter<W>) -> fmt::Result {
+        let Term { high, low } = self.0;
+        let highs = Levelled {
+            lines: Numbered::lines(high),
+            level: Level::High,
+        };
+        let lows = Levelled {
+            lines: Numbered::lines(low),
+            level: Level::Low,
+        };
+        match (high, low) {
+            (0, 0) => write!(f, "always"),
+            (_, 0) => write!(f, "when {highs}"),
+            (0, _) => write!(f, "when {lows}"),
+            (_, _) => write!(f, "when {highs} and {lows}"),
+        }
+    }
+}
+
+// Writes the terms of a condition, each in a row of its own.
+fn write_terms<W: fmt::Write>(f: &mut fmt::Formatter<W>, terms: &[Term]) -> fmt::Result {
+    for (i, term) in terms.iter().enumerate() {
+        let text = TermText(*term);
+        match i {
+            0 => write_row(f, Subject::Same, "fires", text)?,
+            _ => write_row(f, Subject::Same, "", format_args!("or {text}"))?,
+        }
+    }
+    Ok(())
+}
+
+// Writes what a transition does to which places, and when.
+fn write_transition<W: fmt::Write>(
+    f: &mut fmt::Formatter<W>,
+    number: usize,
+    transition: &Transition,
+) -> fmt::Result {
+    let consumed = Numbered::places(transition.consumes);
+    let produced = Numbered::places(transition.produces);
+    write_row(f, Subject::Transition(number), "consumes", consumed)?;
+    write_row(f, Subject::Same, "produces", produced)?;
+    if !transition.tests.is_empty() {
+        let tested = Numbered::places(transition.tests);
+        write_row(f, Subject::Same, "tests", tested)?;
+    }
+    if !transition.inhibits.is_empty() {
+        let inhibiting = Numbered::places(transition.inhibits);
+        write_row(f, Subject::Same, "inhibits", inhibiting)?;
+    }
+    write_terms(f, transition.terms.as_slice())
+}
+
+// The counts and the start of a net, then its transitions, then its places.
+#[derive(Clone, Copy)]
+pub struct NetText<'a>(pub &'a Net);
+
+pub impl fmt::Display for NetText<'_> as NetTextDisplay {
+    fn fmt<W: fmt::Write>(&self, f: &mut fmt::Formatter<W>) -> fmt::Result {
+        let net = self.0;
+        let marked = Numbered::places(net.start());
+        let start = format_args!("with {marked} marked");
+        write_row(f, Subject::Net, "has", CountsText(net.counts()))?;
+        write_row(f, Subject::Same, "starts", start)?;
+        for (i, transition) in net.transitions().iter().enumerate() {
+            writeln!(f)?;
+            write_transition(f, i, transition)?;
+        }
+        writeln!(f)?;
+        for (i, word) in net.raises().iter().enumerate() {
+            write_row(f, Subject::Place(i), "raises", Numbered::outputs(*word))?;
+        }
+        Ok(())
+    }
+}
