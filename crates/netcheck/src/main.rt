@@ -1,28 +1,23 @@
 // Says whether a net file keeps the rules: what is in it, or the first rule that it breaks.
 mod command;
 mod failure;
-mod net_text;
-mod nouns;
-mod reason;
-#[cfg(test)]
-mod tests;
 
 use command::Command;
 use command::HELP;
 use failure::Failure;
 use failure::FailureFromAlloc;
 use failure::FailureFromIo;
-use net_text::NetText;
-use net_text::NetTextDisplay;
 use netfile::Refusal;
 use nets::Net;
-use nouns::Counted;
-use nouns::CountedDisplay;
-use nouns::Noun;
-use reason::CodeText;
-use reason::CodeTextDisplay;
-use reason::Reason;
-use reason::ReasonDisplay;
+use nettext::CodeText;
+use nettext::CodeTextDisplay;
+use nettext::Counted;
+use nettext::CountedDisplay;
+use nettext::NetText;
+use nettext::NetTextDisplay;
+use nettext::Noun;
+use nettext::Reason;
+use nettext::ReasonDisplay;
 use std::env;
 use std::fs;
 use std::io;
@@ -40,26 +35,27 @@ fn contents(rt: &LibcRuntime, name: &str) -> Result<Vec<u8>, Failure> {
 }
 
 // Prints the net of an accepted file.
-fn accept(rt: &LibcRuntime, name: &str, size: Counted, net: &Net) -> io::Result<()> {
+fn accept(rt: &LibcRuntime, name: &str, bytes: usize, net: &Net) -> io::Result<()> {
+    let size = Counted(bytes, Noun::Byte);
     println!(rt, "{name}: {size}, accepted\n")?;
     rt.print(NetText(net))
 }
 
 // Prints why a file is refused.
-fn refuse(rt: &LibcRuntime, name: &str, size: Counted, refusal: Refusal) -> io::Result<()> {
+fn refuse(rt: &LibcRuntime, name: &str, bytes: usize, refusal: Refusal) -> io::Result<()> {
+    let size = Counted(bytes, Noun::Byte);
     println!(rt, "{name}: {size}, refused")?;
     rt.println(CodeText(refusal.code()))?;
-    rt.println(Reason { refusal, size })
+    rt.println(Reason { refusal, bytes })
 }
 
 // Checks the file of this name, and prints what was found.
 fn check(rt: &LibcRuntime, name: &str) -> Result<(), Failure> {
-    let bytes = contents(rt, name)?;
-    let size = Counted(bytes.len(), Noun::Byte);
-    match netfile::read(bytes.as_slice()) {
-        Ok(net) => Ok(accept(rt, name, size, &net)?),
+    let file = contents(rt, name)?;
+    match netfile::read(file.as_slice()) {
+        Ok(net) => Ok(accept(rt, name, file.len(), &net)?),
         Err(refusal) => {
-            refuse(rt, name, size, refusal)?;
+            refuse(rt, name, file.len(), refusal)?;
             Err(Failure::Refused)
         }
     }

@@ -14,11 +14,11 @@ use crate::refusal::RefusalFromQuantity;
 use crate::table::Table;
 use nets::Counts;
 
-// The number of bytes before the first table.
-const HEADER: usize = 16;
+// The fewest bytes that a net file has: those before the first table.
+pub const SHORTEST: usize = 16;
 
 // The most bytes that a net file has.
-const LONGEST: usize = 16_384;
+pub const LONGEST: usize = 16_384;
 
 // The bytes of one table, and where in the file they end.
 #[derive(Clone, Copy)]
@@ -70,10 +70,10 @@ pub fn tables_in(file: &[u8]) -> Result<Tables<'_>, Refusal>
     ensures refused { λ r. ⌜ errPart r ≡ first-of (unless-any (size-broken (now (file .entry))) (pairs-broken (now (file .entry)))) ⌝ }
     ensures granted { λ r. ⌜ made r (λ t. (16 ≤ length (now (file .entry))) × (now (t .places) ≡ table-in (now (file .entry)) Places) × (now (t .arcs) ≡ table-in (now (file .entry)) Arcs) × (now (t .terms) ≡ table-in (now (file .entry)) Terms)) ⌝ }
 {
-    if file.len() < HEADER || file.len() > LONGEST {
+    if file.len() < SHORTEST || file.len() > LONGEST {
         return Err(Refusal::FileSize);
     }
-    let places = table_part(file, Table::Places, HEADER)?;
+    let places = table_part(file, Table::Places, SHORTEST)?;
     let arcs = table_part(file, Table::Arcs, places.end)?;
     let terms = table_part(file, Table::Terms, arcs.end)?;
     Ok(Tables {

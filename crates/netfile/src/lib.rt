@@ -9,6 +9,8 @@ mod table;
 mod terms;
 mod transitions;
 
+pub use layout::LONGEST;
+pub use layout::SHORTEST;
 pub use reader::read;
 pub use refusal::PairFault;
 pub use refusal::PairFaultDebug;

@@ -19,7 +19,7 @@ pub struct Transition {
 
 impl Transition {
     // A transition with no arc and no term.
-    pub fn unconnected() -> Transition
+    pub(crate) fn unconnected() -> Transition
         ensures { λ r. ⌜ transition-of r ≡ no-arc-or-term ⌝ }
     {
         let none = PlaceSet::empty();
@@ -42,7 +42,7 @@ impl Transition {
     }
 
     // One arc more, to `place`.
-    pub fn add_arc(&mut self, kind: ArcKind, place: usize)
+    pub(crate) fn add_arc(&mut self, kind: ArcKind, place: usize)
         ensures { λ _. ⌜ transition-of (now (self .exit)) ≡ with-arc (transition-of (now (self .entry))) kind place ⌝ }
     {
         match kind {
@@ -54,7 +54,7 @@ impl Transition {
     }
 
     // One term more; nothing changes where there are four.
-    pub fn add_term(&mut self, term: Term)
+    pub(crate) fn add_term(&mut self, term: Term)
         ensures { λ _. ⌜ transition-of (now (self .exit)) ≡ given-term (transition-of (now (self .entry))) term ⌝ }
     {
         self.terms.push(term);

@@ -34,14 +34,16 @@ impl Net {
         ensures lines { λ r. ⌜ r .lines ≡ net-of (now (self .entry)) .lines ⌝ }
         ensures outputs { λ r. ⌜ r .outputs ≡ net-of (now (self .entry)) .outputs ⌝ }
     {
-        self.counts
+        let counts = self.counts;
+        counts
     }
 
     // The places that are marked at the start.
     pub fn start(&self) -> PlaceSet
         ensures { λ r. ⌜ places-in r ≡ net-of (now (self .entry)) .start ⌝ }
     {
-        self.start
+        let start = self.start;
+        start
     }
 
     // For each place the outputs that it raises.

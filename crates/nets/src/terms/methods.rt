@@ -12,7 +12,7 @@ impl Terms {
     pub const MOST: usize = 4;
 
     // No term.
-    pub fn none() -> Terms
+    pub(crate) fn none() -> Terms
         ensures { λ r. ⌜ terms-in r ≡ [] ⌝ }
     {
         Terms {
@@ -29,7 +29,7 @@ impl Terms {
     }
 
     // One term more; false, and nothing changes, where there are four.
-    pub fn push(&mut self, term: Term) -> bool
+    pub(crate) fn push(&mut self, term: Term) -> bool
         ensures answer { λ r. ⌜ r ≡ ltb (length (terms-in (now (self .entry)))) 4 ⌝ }
         ensures terms { λ _. ⌜ terms-in (now (self .exit)) ≡ with-term (terms-in (now (self .entry))) term ⌝ }
     {

@@ -5,10 +5,13 @@ ghost use Rattle.std.specs.Written.{decimal};
 ghost use Rattle.std.specs.declared.option.Option.the-variants.{Some};
 use crate::nouns::Counted;
 use crate::nouns::CountedDisplay;
+use crate::nouns::Noun;
+use netfile::LONGEST;
 use netfile::PairFault;
 use netfile::RecordFault;
 use netfile::Refusal;
 use netfile::RefusalCode;
+use netfile::SHORTEST;
 use netfile::Table;
 use nets::Quantity;
 use std::fmt;
@@ -93,12 +96,13 @@ struct QuantityText(Quantity);
 
 impl fmt::Display for QuantityText as QuantityTextDisplay {
     fn fmt<W: fmt::Write>(&self, f: &mut fmt::Formatter<W>) -> fmt::Result {
-        let (byte, name, most) = match self.0 {
-            Quantity::Places => (0, "places", 64),
-            Quantity::Transitions => (1, "transitions", 64),
-            Quantity::Lines => (2, "lines", 32),
-            Quantity::Outputs => (3, "outputs", 32),
+        let (byte, name) = match self.0 {
+            Quantity::Places => (0, "places"),
+            Quantity::Transitions => (1, "transitions"),
+            Quantity::Lines => (2, "lines"),
+            Quantity::Outputs => (3, "outputs"),
         };
+        let most = self.0.most();
         write!(
             f,
             "The number of {name}, byte {byte}, is wrong: a net has 1 to {most}."
@@ -133,19 +137,22 @@ const PLACES_LENGTH: &str = "The places table does not have 5 bytes for each pla
 // That no token is in the net to begin with.
 const NO_START_PLACE: &str = "No place is marked at the start.";
 
-// The sentence on a refusal of a file of this size.
+// The sentence on a refusal of a file of so many bytes.
 #[derive(Clone, Copy)]
 pub struct Reason {
     pub refusal: Refusal,
-    pub size: Counted,
+    pub bytes: usize,
 }
 
 pub impl fmt::Display for Reason as ReasonDisplay {
     fn fmt<W: fmt::Write>(&self, f: &mut fmt::Formatter<W>) -> fmt::Result {
-        let size = self.size;
         match self.refusal {
             Refusal::FileSize => {
-                write!(f, "The file has {size}; a net file has 16 to 16384 bytes.")
+                let size = Counted(self.bytes, Noun::Byte);
+                write!(
+                    f,
+                    "The file has {size}; a net file has {SHORTEST} to {LONGEST} bytes."
+                )
             }
             Refusal::Pair(table, fault) => f.write(PairText(table, fault)),
             Refusal::Count(quantity) => f.write(QuantityText(quantity)),

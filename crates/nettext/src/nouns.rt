@@ -2,7 +2,7 @@
 ghost use mathlib.Core.Path.{_≡_};
 ghost use lib.Count.{ones};
 ghost use Rattle.bitset.specs.Places.{places-in};
-ghost use Rattle.netcheck.specs.declared.nouns.Noun.the-variants.{Place, Line, Output};
+ghost use Rattle.nettext.specs.declared.nouns.Noun.the-variants.{Place, Line, Output};
 use bitset::PlaceSet;
 use std::fmt;
 
