@@ -33,7 +33,7 @@ impl Table {
     }
 
     // Where in the file its pair of offset and length stands.
-    pub fn pair_place(self) -> usize
+    pub(crate) fn pair_place(self) -> usize
         ensures { λ r. ⌜ r ≡ pair-place self ⌝ }
     {
         match self {
