@@ -6,7 +6,6 @@ mod place_set;
 pub mod words;
 
 pub use place_set::PlaceSet;
-pub use place_set::PlaceSetDebug;
 pub use place_set::PlaceSetPartialEq;
 
 // The laws of words as sets, over every width; the contract is the theorem.

@@ -7,7 +7,7 @@ ghost use Rattle.bitset.specs.Places.{places-in, with-place, lowest-in, how-ma
 ghost use Rattle.bitset.specs.Sets.{has as has-member, within, apart, without as taken-away};
 use crate::bits;
 
-#[derive(Clone, Copy, PartialEq, Eq, Debug)]
+#[derive(Clone, Copy, PartialEq, Eq)]
 pub struct PlaceSet {
     word: u64,
 }

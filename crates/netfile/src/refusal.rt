@@ -3,14 +3,10 @@ ghost use mathlib.Core.Path.{_≡_};
 ghost use Rattle.netfile.specs.Codes.{code-of, quantity-number};
 ghost use Rattle.netfile.specs.declared.refusal.Refusal.the-variants.{Count};
 use crate::table::Table;
-use crate::table::TableDebug;
-use crate::table::TablePartialEq;
 use nets::Quantity;
-use nets::QuantityDebug;
-use nets::QuantityPartialEq;
 
 // What is wrong with the pair of offset and length of a table.
-#[derive(Clone, Copy, PartialEq, Eq, Debug)]
+#[derive(Clone, Copy)]
 pub enum PairFault {
     // The table starts before byte 16, or before the end of the table before it.
     StartsEarly,
@@ -21,7 +17,7 @@ pub enum PairFault {
 }
 
 // What a record has that the net lacks, or that is out of range.
-#[derive(Clone, Copy, PartialEq, Eq, Debug)]
+#[derive(Clone, Copy)]
 pub enum RecordFault {
     StartMark,
     Output,
@@ -33,7 +29,7 @@ pub enum RecordFault {
 }
 
 // The rule that a file breaks; a number is that of the record or of the transition.
-#[derive(Clone, Copy, PartialEq, Eq, Debug)]
+#[derive(Clone, Copy)]
 pub enum Refusal {
     FileSize,
     Pair(Table, PairFault),
@@ -49,7 +45,7 @@ pub enum Refusal {
 }
 
 // A refusal by its four numbers.
-#[derive(Clone, Copy, PartialEq, Eq, Debug)]
+#[derive(Clone, Copy, PartialEq, Eq)]
 pub struct RefusalCode {
     pub number: usize,
     pub table: usize,

@@ -9,8 +9,6 @@ pub use nouns::Counted;
 pub use nouns::CountedDisplay;
 pub use nouns::Noun;
 pub use nouns::NounDisplay;
-pub use nouns::Numbered;
-pub use nouns::NumberedDisplay;
 pub use reason::CodeText;
 pub use reason::CodeTextDisplay;
 pub use reason::Reason;

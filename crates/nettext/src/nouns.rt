@@ -52,7 +52,7 @@ pub struct Numbered {
 
 impl Numbered {
     // The places of a set.
-    pub fn places(set: PlaceSet) -> Numbered
+    pub(crate) fn places(set: PlaceSet) -> Numbered
         ensures { λ r. ⌜ r .noun ≡ Place ⌝ ∗ ⌜ r .word ≡ places-in set ⌝ }
     {
         Numbered {
@@ -62,7 +62,7 @@ impl Numbered {
     }
 
     // The lines of a word.
-    pub fn lines(word: u32) -> Numbered
+    pub(crate) fn lines(word: u32) -> Numbered
         ensures { λ r. ⌜ r .noun ≡ Line ⌝ ∗ ⌜ r .word ≡ word ⌝ }
     {
         Numbered {
@@ -72,7 +72,7 @@ impl Numbered {
     }
 
     // The outputs of a word.
-    pub fn outputs(word: u32) -> Numbered
+    pub(crate) fn outputs(word: u32) -> Numbered
         ensures { λ r. ⌜ r .noun ≡ Output ⌝ ∗ ⌜ r .word ≡ word ⌝ }
     {
         Numbered {
@@ -82,7 +82,7 @@ impl Numbered {
     }
 
     // How many there are.
-    pub fn count(self) -> u32
+    pub(crate) fn count(self) -> u32
         ensures { λ r. ⌜ r ≡ ones (self .word) ⌝ }
     {
         self.word.count_ones()
