@@ -1,5 +1,5 @@
 -- What the code's shifts and masks say of the sets.
-use mathlib.Core.Path.{_≡_, refl, sym, ap, _∙_}
+use mathlib.Core.Path.{_≡_, ap}
 use Prim.Native.Nat.{ℕ, _*_, _/_, _%_, _^_, _<_}
 use lib.Bits.{bitAnd, and-mask}
 use lib.Dec.{eqb}

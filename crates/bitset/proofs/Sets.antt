@@ -1,22 +1,22 @@
 -- Words as sets: what is in each, and that a word is known by what is in it.
 use mathlib.Core.Path.{_≡_, refl, sym, ap, ap₂, subst, _∙_}
-use mathlib.Core.Logic.{_⊎_, inl, inr, ⊎-elim}
-use mathlib.Core.Bool.{Bool, true, false, not, cond, _&&_, _||_, true≢false, false≢true}
+use mathlib.Core.Logic.{_⊎_, ⊎-elim}
+use mathlib.Core.Bool.{Bool, true, false, not, cond, _&&_, _||_}
 use mathlib.Core.List.{List, [], _∷_, _++_}
-use Prim.Native.Nat.{ℕ, zero, suc, _+_, _-_, _*_, _/_, _%_, _^_, _≤_, _<_, min, max}
-use native.Mathlib.Nat.{pow-suc, pow-succ', pow-zero, div-one, zero-div, div-div-eq-div-mul, div-eq-of-lt}
+use Prim.Native.Nat.{ℕ, zero, suc, _+_, _-_, _/_, _%_, _^_, _≤_, _<_, min, max}
+use native.Mathlib.Nat.{pow-suc, pow-succ', div-one, zero-div, div-div-eq-div-mul, div-eq-of-lt}
 use native.Mathlib.Omega.{arith}
 use lib.Arith.{bin-ind}
-use lib.Bits.{bitAnd, bitOr, bitXor, and-step, or-step, and-le-l, and-comm}
-use lib.Dec.{eqb, ltb, T, eqb·suc-suc, eqb·zero-suc, eqb·suc-zero, leb·suc-suc}
+use lib.Bits.{bitAnd, bitOr, and-step, or-step, and-le-l, and-comm}
+use lib.Dec.{eqb, ltb, eqb·suc-suc, eqb·zero-suc, eqb·suc-zero, leb·suc-suc}
 use lib.Count.{trailingZeros, under, ones, ones-step}
 use lib.ListN.{length, length-append}
 use lib.Pow.{pow-mono, pow-pos}
-use Rattle.std.proofs.shelf.Tests.{eq-eqb, ne-eqb, eqb-true, eqb-false, lt-ltb, le-ltb, cases-bool, cases-lt}
+use Rattle.std.proofs.shelf.Tests.{eq-eqb, ne-eqb, eqb-true, eqb-false, lt-ltb, le-ltb, cases-lt}
 use Rattle.std.proofs.shelf.Ways.{tells}
-use Rattle.std.specs.declared.option.Option.{Option}
 use Rattle.std.specs.declared.option.Option.the-variants.{None, Some}
-use Rattle.bitset.specs.Places.{first-of}
+use Rattle.bitset.specs.Lists.{first-of}
+use Rattle.bitset.proofs.Lists.{first-joined}
 use Rattle.bitset.specs.Sets.{has, within, apart, without, only, below, members, tell, count}
 
 -- ONE BIT AFTER THE OTHER
@@ -255,10 +255,6 @@ no-members w (suc k) h = rw (h k (omega arith)) (no-members w k (λ x l. h x (om
 pub first-none : (k : ℕ) → first-of (members 0 k) ≡ None
 first-none k = ap first-of (no-members 0 k (λ x h. has-none x))
 
-first-append : (xs ys : List ℕ) (p : ℕ) → first-of xs ≡ Some p → first-of (xs ++ ys) ≡ Some p
-first-append [] ys p e = let z : _≡_ {A = ℕ} 0 1 = cc in absurd (omega arith)
-first-append (x ∷ xs) ys p e = e
-
 -- the first of the members is the one below which there is none
 pub first-member : (w p k : ℕ) → p < k → has w p ≡ true → ((x : ℕ) → x < p → has w x ≡ false) → first-of (members w k) ≡ Some p
 first-member w p zero h e least = absurd (omega arith)
@@ -267,7 +263,7 @@ first-member w p (suc k) h e least = ⊎-elim
     (λ l. let s : p ≡ k = omega arith in subst (λ (x : ℕ). first-of (members w (suc x)) ≡ Some p) s last) (cases-lt p k)
   where
     go : (b : Bool) → first-of (members w k) ≡ Some p → first-of (cond b (members w k ++ k ∷ []) (members w k)) ≡ Some p
-    go true ih = first-append (members w k) (k ∷ []) p ih
+    go true ih = first-joined (members w k) (k ∷ []) p ih
     go false ih = ih
 
     last : first-of (members w (suc p)) ≡ Some p

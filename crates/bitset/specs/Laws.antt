@@ -1,6 +1,6 @@
 -- The laws of words as sets, at any width.
 use mathlib.Core.Path.{_≡_}
-use mathlib.Core.Bool.{Bool, true, false, not, _&&_, _||_}
+use mathlib.Core.Bool.{true, false, not, _&&_, _||_}
 use Prim.Native.Nat.{ℕ, _^_, _<_}
 use lib.Bits.{bitAnd, bitOr}
 use lib.Count.{ones}

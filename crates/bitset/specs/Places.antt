@@ -1,13 +1,12 @@
 -- The code's set of places as the word that it stands for, and what its methods answer.
-use mathlib.Core.Bool.{Bool, true, false, cond}
-use mathlib.Core.List.{List, [], _∷_}
+use mathlib.Core.Bool.{cond}
 use Prim.Native.Nat.{ℕ}
 use lib.Bits.{bitOr}
 use lib.Dec.{ltb}
 use lib.ListN.{length}
 use Rattle.std.specs.declared.option.Option.{Option}
-use Rattle.std.specs.declared.option.Option.the-variants.{None, Some}
 use Rattle.bitset.specs.declared.place_set.PlaceSet.{PlaceSet}
+use Rattle.bitset.specs.Lists.{first-of}
 use Rattle.bitset.specs.Sets.{only, members}
 
 -- the places of a set, as a word
@@ -21,11 +20,6 @@ room = 64
 -- w and place p, where there is room for it
 abbrev pub with-place : ℕ → ℕ → ℕ
 with-place w p = cond (ltb p room) (bitOr w (only p)) w
-
--- the first of a list
-abbrev pub first-of : List ℕ → Option ℕ
-first-of [] = None
-first-of (x ∷ xs) = Some x
 
 -- the lowest place of w
 unfoldable pub lowest-in : ℕ → Option ℕ

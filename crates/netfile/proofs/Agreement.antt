@@ -1,24 +1,23 @@
 -- What the reader finds broken as it fills the net is what the rules on the tables say.
 use mathlib.Core.Path.{_≡_, refl, sym, ap, ap₂, _∙_}
-use mathlib.Core.Bool.{Bool, true, false, cond}
+use mathlib.Core.Bool.{cond}
 use mathlib.Core.Logic.{⊎-elim}
-use mathlib.Core.List.{List, [], _∷_, _++_}
-use Prim.Native.Nat.{ℕ, zero, suc, _+_, _<_, _≤_}
+use mathlib.Core.List.{List, []}
+use Prim.Native.Nat.{ℕ, zero, suc, _<_}
 use native.Mathlib.Omega.{arith}
-use lib.Dec.{eqb, ltb}
+use lib.Dec.{eqb}
 use lib.ListN.{length}
 use Rattle.std.proofs.shelf.Lists.{getD-past}
 use Rattle.std.proofs.shelf.Tests.{lt-ltb, ne-eqb, cases-lt, cond-false}
 use Rattle.bitset.specs.Sets.{has}
 use Rattle.bitset.proofs.Sets.{has-none}
 use Rattle.nets.specs.Nets.{Net, unconnected, at}
-use Rattle.nets.specs.Ranges.{first-of}
+use Rattle.bitset.specs.Lists.{first-of}
 use Rattle.nets.specs.Stored.{joined-places, blank-net}
 use Rattle.nets.specs.declared.counts.Counts.{Counts}
-use Rattle.netfile.specs.declared.refusal.Refusal.{Refusal}
 use Rattle.netfile.specs.declared.table.Table.the-variants.{Places, Arcs, Terms}
 use Rattle.netfile.specs.Files.{records, place-record, arc-record, term-record, term-list, net-said}
-use Rattle.netfile.specs.Rules.{each-below, place-broken, arc-broken, term-broken, places-broken, arcs-broken, terms-broken, net-broken, tables-broken, joined-before}
+use Rattle.netfile.specs.Rules.{place-broken, arc-broken, term-broken, places-broken, arcs-broken, terms-broken, net-broken, tables-broken, joined-before}
 use Rattle.netfile.specs.Steps.{put-below, put-place, put-arc, put-term, place-wrong, arc-wrong, term-wrong, places-wrong, arcs-wrong, terms-wrong, with-places, with-arcs, with-terms, filled-net, filling-wrong}
 use Rattle.netfile.proofs.Counted.{counted-same}
 use Rattle.netfile.proofs.Joined.{said-joined, never-joined}

@@ -1,9 +1,8 @@
 -- What a record is, if it breaks no rule.
-use mathlib.Core.Path.{_≡_, refl, sym, ap, _∙_}
+use mathlib.Core.Path.{_≡_}
 use mathlib.Core.Bool.{Bool, true, false, not}
-use mathlib.Core.List.{List, [], _∷_, _++_}
-use Prim.Native.Nat.{ℕ, _<_, _≤_, _+_}
-use native.Mathlib.Omega.{arith}
+use mathlib.Core.List.{List, []}
+use Prim.Native.Nat.{ℕ, _<_, _≤_}
 use lib.Dec.{leb, ltb}
 use lib.ListN.{length}
 use Rattle.std.proofs.shelf.Tests.{leb-false, ltb-false, not-false}
@@ -16,7 +15,7 @@ use Rattle.netfile.specs.declared.refusal.RecordFault.the-variants.{StartMark,
 use Rattle.netfile.specs.declared.refusal.Refusal.the-variants.{Record, RepeatedArc, LineInBothWords, FifthTerm}
 use Rattle.netfile.specs.declared.table.Table.the-variants.{Places, Arcs, Terms}
 use Rattle.netfile.specs.Files.{arc-record, term-record, term-list}
-use Rattle.netfile.specs.Rules.{where-broken, place-broken, arc-broken, term-broken, words-broken, arcs-broken, terms-broken, joined-before}
+use Rattle.netfile.specs.Rules.{place-broken, arc-broken, term-broken, words-broken, arcs-broken, terms-broken, joined-before}
 use Rattle.netfile.proofs.Lists.{both-empty, none-at, kept-rule, kept-last}
 
 pub record PlaceKept (outputs : ℕ) (p : PlaceRecord) : Type 0 where

@@ -6,19 +6,18 @@ use mathlib.Core.List.{List, [], _∷_, _++_}
 use Prim.Native.Nat.{ℕ, zero, suc, _+_, _<_, _≤_}
 use native.Mathlib.Omega.{arith}
 use lib.Bits.{bitOr}
-use lib.Dec.{eqb, ltb}
+use lib.Dec.{eqb}
 use lib.ListN.{length, getD, length-append}
 use Rattle.std.specs.shelf.Lists.{All}
 use Rattle.std.proofs.shelf.Counted.{length-map-counting}
 use Rattle.std.proofs.shelf.Elements.{all-push, all-getD}
-use Rattle.std.proofs.shelf.Tests.{lt-ltb, eqb-true, eqb-false, cases-bool, and-cases}
+use Rattle.std.proofs.shelf.Tests.{eqb-true, eqb-false, and-cases}
 use Rattle.std.proofs.shelf.Ways.{tells}
 use Rattle.bitset.specs.Sets.{has, within, only, below, tell}
 use Rattle.bitset.proofs.Sets.{has-only, has-below, has-none, within-from, within-both}
-use Rattle.nets.specs.Nets.{Net, Transition, unconnected, at}
-use Rattle.nets.specs.WellFormed.{WellFormedTerm, WellFormedTransition, WellFormed, arcs-to, always}
+use Rattle.nets.specs.Nets.{Net, unconnected, at}
+use Rattle.nets.specs.WellFormed.{WellFormedTerm, WellFormedTransition, WellFormed, always}
 use Rattle.nets.specs.declared.counts.Counts.{Counts}
-use Rattle.nets.specs.declared.term.Term.{Term}
 use Rattle.netfile.specs.declared.refusal.Refusal.{Refusal}
 use Rattle.netfile.specs.declared.refusal.Refusal.the-variants.{MovesNothing, NoTerm, NoStartPlace}
 use Rattle.netfile.specs.declared.table.Table.the-variants.{Places, Arcs, Terms}
@@ -26,7 +25,7 @@ use Rattle.netfile.specs.Files.{records, place-record, arc-record, term-record
 use Rattle.netfile.specs.Rules.{none-in, place-broken, transition-broken, places-broken, arcs-broken, terms-broken, transitions-broken, start-broken, net-broken, tables-broken, joined-before}
 use Rattle.netfile.proofs.Counted.{counted-at}
 use Rattle.netfile.proofs.Joined.{has-arc, eqb-comm}
-use Rattle.netfile.proofs.Kept.{PlaceKept, ArcKept, TermKept, WordsKept, place-kept, arcs-kept, terms-kept, joined-at}
+use Rattle.netfile.proofs.Kept.{TermKept, WordsKept, place-kept, arcs-kept, terms-kept}
 use Rattle.netfile.proofs.Lists.{both-empty, none-at, kept-rule, kept-last}
 
 -- one place of the net

@@ -1,29 +1,17 @@
 -- The first of what is broken, over lists that are joined and over numbers in rising order.
-use mathlib.Core.Path.{_≡_, refl, sym, ap, subst, _∙_}
+use mathlib.Core.Path.{_≡_, refl, ap, subst, _∙_}
 use mathlib.Core.Bool.{Bool, true, false}
 use mathlib.Core.Logic.{⊎-elim}
 use mathlib.Core.List.{List, [], _∷_, _++_}
-use Prim.Native.Nat.{ℕ, zero, suc, _+_, _<_, _≤_}
+use Prim.Native.Nat.{ℕ, zero, suc, _+_, _<_}
 use native.Mathlib.Omega.{arith}
 use native.Mathlib.Numerals.{add-one}
 use Rattle.std.proofs.shelf.Tests.{cases-lt}
-use Rattle.std.specs.declared.option.Option.{Option}
 use Rattle.std.specs.declared.option.Option.the-variants.{None, Some}
-use Rattle.nets.specs.Ranges.{first-of}
+use Rattle.bitset.specs.Lists.{first-of}
+use Rattle.bitset.proofs.Lists.{none-first, first-joined, first-past}
 use Rattle.netfile.specs.declared.refusal.Refusal.{Refusal}
 use Rattle.netfile.specs.Rules.{each-below, where-broken}
-
--- nothing comes first of an empty list only
-pub none-first : {X : Type 0} (xs : List X) → first-of xs ≡ None → xs ≡ []
-none-first [] e = refl
-none-first (x ∷ xs) e = let z : _≡_ {A = ℕ} 0 1 = cc in absurd (omega arith)
-
-pub first-joined : {X : Type 0} (xs ys : List X) (x : X) → first-of xs ≡ Some x → first-of (xs ++ ys) ≡ Some x
-first-joined [] ys x e = let z : _≡_ {A = ℕ} 0 1 = cc in absurd (omega arith)
-first-joined (y ∷ xs) ys x e = e
-
-pub first-past : {X : Type 0} (xs ys : List X) → first-of xs ≡ None → first-of (xs ++ ys) ≡ first-of ys
-first-past xs ys e = ap (λ l. first-of (l ++ ys)) (none-first xs e)
 
 -- nothing is broken below i, nor at i
 pub none-more : (f : ℕ → List Refusal) (i : ℕ) → each-below f i ≡ [] → first-of (f i) ≡ None → each-below f (i + 1) ≡ []
@@ -61,13 +49,6 @@ none-at f zero e i h = absurd (omega arith)
 none-at f (suc k) e i h =
     let both = both-empty (each-below f k) (f k) e in
     ⊎-elim (λ l. none-at f k (both .0) i l) (λ l. let s : k ≡ i = omega arith in subst (λ (x : ℕ). f x ≡ []) s (both .1)) (cases-lt i k)
-
--- nothing is broken below a smaller number
-pub none-below : (f : ℕ → List Refusal) (k : ℕ) → each-below f k ≡ [] → (i : ℕ) → i ≤ k → each-below f i ≡ []
-none-below f zero e i h = let s : 0 ≡ i = omega arith in subst (λ (x : ℕ). each-below f x ≡ []) s refl
-none-below f (suc k) e i h =
-    ⊎-elim (λ l. none-below f k (both-empty (each-below f k) (f k) e .0) i (omega arith))
-    (λ l. let s : suc k ≡ i = omega arith in subst (λ (x : ℕ). each-below f x ≡ []) s e) (cases-lt i (suc k))
 
 -- a rule that is not broken, with those after it
 pub kept-rule : (b : Bool) (r : Refusal) (rest : List Refusal) → where-broken b r ++ rest ≡ [] → (b ≡ false) × (rest ≡ [])

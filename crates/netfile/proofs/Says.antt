@@ -1,14 +1,14 @@
 -- The net that is defined from a file's bytes has what the file's records say, and nothing else.
-use mathlib.Core.Path.{_≡_, refl, sym, ap, ap₂, subst, _∙_}
+use mathlib.Core.Path.{_≡_, refl, sym, ap, ap₂, _∙_}
 use mathlib.Core.Bool.{Bool, true, false, cond, _&&_, _||_}
 use mathlib.Core.Logic.{⊎-elim}
 use mathlib.Core.List.{List, [], _∷_, _++_, map}
-use Prim.Native.Nat.{ℕ, zero, suc, _+_, _<_, _≤_}
+use Prim.Native.Nat.{ℕ, zero, suc, _+_, _<_}
 use native.Mathlib.Omega.{arith}
 use native.Mathlib.Numerals.{add-one}
 use lib.Bits.{bitOr}
 use lib.Dec.{eqb, ltb}
-use lib.ListN.{length, getD}
+use lib.ListN.{length}
 use Rattle.std.specs.Iters.{counting}
 use Rattle.std.specs.Orderings.{Decides}
 use Rattle.std.specs.shelf.Lists.{kept-by}
@@ -18,13 +18,11 @@ use Rattle.std.proofs.shelf.Tests.{eqb-true, eq-eqb, ltb-true, lt-ltb, and-part
 use Rattle.std.proofs.shelf.Ways.{tells, decides-at, decides-below-or}
 use Rattle.bitset.specs.Sets.{has, only}
 use Rattle.bitset.proofs.Sets.{has-or, has-only, has-none}
-use Rattle.nets.specs.Nets.{Net, Transition, unconnected, at}
-use Rattle.nets.specs.declared.term.Term.{Term}
+use Rattle.nets.specs.Nets.{Transition, unconnected, at}
 use Rattle.netfile.specs.declared.records.ArcRecord.{ArcRecord}
-use Rattle.netfile.specs.declared.records.TermRecord.{TermRecord}
 use Rattle.netfile.specs.declared.table.Table.the-variants.{Places, Arcs, Terms}
 use Rattle.netfile.specs.Files.{places-said, transitions-said, table-in, records, place-record, arc-record, term-record, start-places, arc-of, arc-places, term-list, transition-said, net-in}
-use Rattle.netfile.specs.Says.{Has-arc, Says, terms-of}
+use Rattle.netfile.specs.Says.{Has-arc, Says}
 use Rattle.netfile.proofs.Counted.{counted-at}
 use Rattle.netfile.proofs.Joined.{has-arc}
 

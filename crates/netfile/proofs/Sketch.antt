@@ -1,35 +1,32 @@
 -- The net after so many records of each table is the one that these records say.
-use mathlib.Core.Path.{_≡_, refl, sym, ap, ap₂, subst, _∙_}
-use mathlib.Core.Bool.{Bool, true, false, cond, _&&_, _||_}
-use mathlib.Core.Logic.{⊎-elim}
-use mathlib.Core.List.{List, [], _∷_, _++_, map}
-use Prim.Native.Nat.{ℕ, zero, suc, _+_, _<_, _≤_}
+use mathlib.Core.Path.{_≡_, refl, sym, ap, ap₂, _∙_}
+use mathlib.Core.Bool.{Bool, true, false, cond, _&&_}
+use mathlib.Core.List.{List, [], map}
+use Prim.Native.Nat.{ℕ, zero, suc, _<_, _≤_}
 use native.Mathlib.Omega.{arith}
 use lib.Bits.{bitOr}
 use lib.Dec.{eqb, ltb}
-use lib.ListN.{length, getD, set, replicate}
+use lib.ListN.{length, set}
 use Rattle.std.specs.Iters.{counting}
 use Rattle.std.proofs.shelf.Counted.{length-map-counting}
-use Rattle.std.proofs.shelf.Tests.{lt-ltb, le-ltb, eq-eqb, ne-eqb, cases-lt, and-from, and-left, and-right, cond-true, cond-false}
+use Rattle.std.proofs.shelf.Tests.{lt-ltb, le-ltb, eq-eqb, ne-eqb, and-from, and-left, and-right, cond-true, cond-false}
 use Rattle.std.proofs.shelf.Ways.{tells}
 use Rattle.bitset.specs.Places.{with-place}
 use Rattle.bitset.specs.Sets.{has, only}
 use Rattle.std.specs.declared.option.Option.the-variants.{Some}
 use Rattle.nets.specs.Kinds.{kind-number, kind-numbered}
 use Rattle.nets.specs.Nets.{Net, Transition, unconnected, at}
-use Rattle.nets.specs.Stored.{with-arc, with-term, given-term, with-transition, net-with-arc, net-with-term, with-place-record, blank-net}
+use Rattle.nets.specs.Stored.{with-arc, given-term, blank-net}
 use Rattle.nets.specs.declared.arc_kind.ArcKind.{ArcKind}
 use Rattle.nets.specs.declared.arc_kind.ArcKind.the-variants.{Consumes, Produces, Tests, Inhibits}
 use Rattle.nets.specs.declared.term.Term.{Term}
 use Rattle.nets.specs.declared.counts.Counts.{Counts}
-use Rattle.netfile.specs.declared.records.ArcRecord.{ArcRecord}
-use Rattle.netfile.specs.declared.records.TermRecord.{TermRecord}
 use Rattle.netfile.specs.Files.{place-record, arc-record, term-record, start-places, arc-of, arc-places, term-list, transition-said}
 use Rattle.netfile.specs.Rules.{arcs-broken, terms-broken}
 use Rattle.netfile.specs.Steps.{put-below, put-place, put-arc, put-term, with-arc-as, with-arc-put, with-term-put, with-place-put}
-use Rattle.netfile.proofs.Counted.{counted-at, counted-same, counted-all, counted-set}
+use Rattle.netfile.proofs.Counted.{counted-at, counted-all, counted-set}
 use Rattle.netfile.proofs.Kept.{ArcKept, TermKept, arcs-kept, terms-kept, joined-at, earlier-at}
-use Rattle.netfile.proofs.Lists.{both-empty, none-below}
+use Rattle.netfile.proofs.Lists.{both-empty}
 
 module _ (c : Counts) (ps ars ts : List ℕ) where
   -- what place q raises after i place records

@@ -1,11 +1,11 @@
 -- One turn of a loop that puts records into a net, up to the first that breaks a rule.
-use mathlib.Core.Path.{_≡_, refl, sym, ap, _∙_}
+use mathlib.Core.Path.{_≡_, sym, ap, _∙_}
 use mathlib.Core.List.{List, []}
 use Prim.Native.Nat.{ℕ, _+_, _<_}
 use native.Mathlib.Numerals.{add-one}
 use Rattle.std.specs.declared.option.Option.the-variants.{None, Some}
 use Rattle.nets.specs.Nets.{Net}
-use Rattle.nets.specs.Ranges.{first-of}
+use Rattle.bitset.specs.Lists.{first-of}
 use Rattle.netfile.specs.declared.refusal.Refusal.{Refusal}
 use Rattle.netfile.specs.Steps.{put-below, wrong-below}
 use Rattle.netfile.proofs.Lists.{none-more, first-at}

@@ -1,11 +1,11 @@
 -- From the layout, the counts and the filled net to the file as a whole.
 use mathlib.Core.Path.{_≡_, refl, sym, ap, ap₂, subst, _∙_}
-use mathlib.Core.Bool.{Bool, true, false, not, cond, _||_}
+use mathlib.Core.Bool.{not}
 use mathlib.Core.List.{List, [], _∷_, _++_, map}
-use Prim.Native.Nat.{ℕ, _+_, _*_, _/_, _%_, _-_, _<_, _≤_, min}
+use Prim.Native.Nat.{ℕ, _+_, _*_, _≤_, min}
 use native.Mathlib.Omega.{arith}
 use lib.Dec.{eqb, ltb}
-use lib.ListN.{length, take, drop, length-take, length-drop}
+use lib.ListN.{length, drop, length-take, length-drop}
 use Rattle.std.proofs.shelf.Results.{made-weaker}
 use Rattle.std.proofs.shelf.Tests.{ltb-false, eqb-true, not-false}
 use Rattle.std.specs.declared.option.Option.the-variants.{None, Some}
@@ -13,24 +13,25 @@ use Rattle.std.specs.declared.result.Result.{Result}
 use Rattle.std.specs.declared.result.Result.the-variants.{Ok, Err}
 use Rattle.std.specs.Results.{errPart, isOk}
 use Rattle.std.specs.Vec.{made}
-use Rattle.nets.specs.Nets.{Net}
-use Rattle.nets.specs.Ranges.{first-of, out-of-range}
+use Rattle.bitset.specs.Lists.{first-of}
+use Rattle.bitset.proofs.Lists.{none-first, first-joined, first-past}
+use Rattle.nets.specs.Ranges.{out-of-range}
 use Rattle.nets.specs.Stored.{blank-net, net-of}
 use Rattle.nets.specs.WellFormed.{WellFormed}
 use Rattle.nets.specs.declared.counts.Counts.{Counts}
 use Rattle.nets.specs.declared.net.Net.{Net as StoredNet}
-use Rattle.netfile.specs.declared.refusal.PairFault.the-variants.{StartsEarly, PassesEnd, BrokenRecord}
+use Rattle.netfile.specs.declared.refusal.PairFault.the-variants.{StartsEarly, PassesEnd}
 use Rattle.netfile.specs.declared.refusal.Refusal.{Refusal}
 use Rattle.netfile.specs.declared.refusal.Refusal.the-variants.{Pair, Count, PlacesLength}
 use Rattle.netfile.specs.declared.table.Table.the-variants.{Places, Arcs, Terms}
 use Rattle.netfile.specs.Files.{places-said, transitions-said, lines-said, outputs-said, table-start, table-length, table-end, earliest, table-in, records, net-said, net-in}
-use Rattle.netfile.specs.Rules.{where-broken, none-in, size-broken, pair-broken, pairs-broken, counts-broken, tables-broken, records-broken, unless-any, broken}
+use Rattle.netfile.specs.Rules.{none-in, size-broken, pair-broken, pairs-broken, counts-broken, tables-broken, records-broken, unless-any, broken}
 use Rattle.netfile.specs.Says.{Says}
 use Rattle.netfile.specs.Steps.{filled-net, filling-wrong}
 use Rattle.netfile.proofs.Agreement.{filling-agrees, filled-is}
 use Rattle.netfile.proofs.Lawful.{arcs-right, terms-right, well-formed}
 use Rattle.netfile.proofs.Says.{says}
-use Rattle.netfile.proofs.Lists.{none-first, both-empty, first-joined, first-past, kept-rule, kept-last}
+use Rattle.netfile.proofs.Lists.{both-empty, kept-rule, kept-last}
 
 -- what the layout breaks comes first of all
 pub layout-first : (s p r : List Refusal) (x : Refusal) → first-of (unless-any s p) ≡ Some x → first-of (unless-any s (unless-any p r)) ≡ Some x

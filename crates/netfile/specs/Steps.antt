@@ -1,5 +1,5 @@
 -- How far the reader has come: the net after so many records, and what is broken among these as the net then tells it.
-use mathlib.Core.List.{List, [], _∷_, _++_}
+use mathlib.Core.List.{List, _++_}
 use Prim.Native.Nat.{ℕ, zero, suc}
 use lib.Dec.{eqb}
 use lib.ListN.{length}

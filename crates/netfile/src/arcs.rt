@@ -1,6 +1,6 @@
 // The arcs table.
 ghost use mathlib.Core.Path.{_≡_};
-ghost use Rattle.nets.specs.Ranges.{first-of};
+ghost use Rattle.bitset.specs.Lists.{first-of};
 ghost use Rattle.nets.specs.Stored.{net-of};
 ghost use Rattle.netfile.specs.Steps.{arc-wrong, arcs-wrong, with-arc-put, with-arcs};
 ghost use Rattle.std.specs.Results.{errPart};

@@ -2,9 +2,9 @@
 ghost use Prim.Native.Nat.{_+_, _*_, _≤_};
 ghost use mathlib.Core.Path.{_≡_};
 ghost use lib.ListN.{length};
-ghost use Rattle.nets.specs.Ranges.{first-of};
+ghost use Rattle.bitset.specs.Lists.{first-of};
 ghost use Rattle.netfile.specs.declared.table.Table.the-variants.{Places, Arcs, Terms};
-ghost use Rattle.netfile.specs.Files.{two-bytes, table-in, table-start, table-length, table-end, earliest as earliest-start, places-said, transitions-said, lines-said, outputs-said};
+ghost use Rattle.netfile.specs.Files.{two-bytes, table-in, table-end, earliest as earliest-start, places-said, transitions-said, lines-said, outputs-said};
 ghost use Rattle.netfile.specs.Rules.{size-broken, pair-broken, pairs-broken, counts-broken, unless-any};
 ghost use Rattle.std.specs.Results.{errPart};
 ghost use Rattle.std.specs.Vec.{made};

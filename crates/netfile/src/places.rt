@@ -1,6 +1,6 @@
 // The places table.
 ghost use mathlib.Core.Path.{_≡_};
-ghost use Rattle.nets.specs.Ranges.{first-of};
+ghost use Rattle.bitset.specs.Lists.{first-of};
 ghost use Rattle.nets.specs.Stored.{net-of};
 ghost use Rattle.netfile.specs.Steps.{place-wrong, places-wrong, with-place-put, with-places};
 ghost use Rattle.std.specs.Results.{errPart};

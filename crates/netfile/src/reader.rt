@@ -4,7 +4,7 @@ ghost use Rattle.netfile.specs.Files.{net-in};
 ghost use Rattle.netfile.specs.Rules.{broken, none-in};
 ghost use Rattle.netfile.specs.Says.{Says};
 ghost use Rattle.netfile.specs.Steps.{filled-net, filling-wrong};
-ghost use Rattle.nets.specs.Ranges.{first-of};
+ghost use Rattle.bitset.specs.Lists.{first-of};
 ghost use Rattle.nets.specs.Stored.{net-of, blank-net};
 ghost use Rattle.nets.specs.WellFormed.{WellFormed};
 ghost use Rattle.std.specs.Results.{errPart, isOk};

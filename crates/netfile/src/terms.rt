@@ -1,7 +1,7 @@
 // The terms table.
 ghost use Prim.Native.Nat.{_≤_};
 ghost use mathlib.Core.Path.{_≡_};
-ghost use Rattle.nets.specs.Ranges.{first-of};
+ghost use Rattle.bitset.specs.Lists.{first-of};
 ghost use Rattle.nets.specs.Stored.{net-of};
 ghost use Rattle.netfile.specs.Rules.{words-broken};
 ghost use Rattle.netfile.specs.Steps.{term-wrong, terms-wrong, with-term-put, with-terms};

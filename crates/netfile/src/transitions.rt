@@ -1,7 +1,7 @@
 // What a net has to have once all its records are in it.
 ghost use mathlib.Core.Path.{_≡_};
 ghost use Rattle.netfile.specs.Rules.{transition-broken, transitions-broken, net-broken};
-ghost use Rattle.nets.specs.Ranges.{first-of};
+ghost use Rattle.bitset.specs.Lists.{first-of};
 ghost use Rattle.nets.specs.Stored.{net-of, transition-of};
 ghost use Rattle.std.specs.Results.{errPart};
 use crate::refusal::Refusal;

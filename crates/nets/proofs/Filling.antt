@@ -1,21 +1,15 @@
 -- What the structs that hold a net hold after one of them is filled a little more.
-use mathlib.Core.Path.{_≡_, refl, sym, ap, subst, _∙_}
-use mathlib.Core.Logic.{_⊎_, inl, inr}
-use mathlib.Core.Bool.{Bool, true, false, cond, _&&_}
-use mathlib.Core.List.{List, [], _∷_, _++_, map}
-use Prim.Native.Nat.{ℕ, zero, suc, _+_, _≤_, _<_}
+use mathlib.Core.Path.{_≡_, refl, ap, _∙_}
+use mathlib.Core.Bool.{Bool, cond}
+use mathlib.Core.List.{List, [], _∷_, map}
+use Prim.Native.Nat.{ℕ, zero, suc, _<_}
 use native.Mathlib.Omega.{arith}
-use lib.Dec.{ltb}
 use lib.ListN.{length, take, set, getD, replicate, length-map}
-use Rattle.std.proofs.shelf.Lists.{length-take-le, set-past, map-set, getD-map, getD-take, take-replicate, take-more-set}
-use Rattle.std.proofs.shelf.Tests.{le-ltb, lt-ltb}
-use Rattle.std.proofs.shelf.Ways.{tells}
+use Rattle.std.proofs.shelf.Lists.{length-take-le, map-set, getD-map, getD-take, take-replicate}
 use Rattle.bitset.specs.Places.{places-in, with-place}
 use Rattle.bitset.specs.declared.place_set.PlaceSet.{PlaceSet}
-use Rattle.nets.specs.declared.arc_kind.ArcKind.{ArcKind}
 use Rattle.nets.specs.declared.counts.Counts.{Counts}
 use Rattle.nets.specs.declared.net.Net.{Net as StoredNet}
-use Rattle.nets.specs.declared.term.Term.{Term}
 use Rattle.nets.specs.declared.terms.Terms.{Terms}
 use Rattle.nets.specs.declared.transition.Transition.{Transition as StoredTransition}
 use Rattle.nets.specs.Nets.{Net, Transition, unconnected, at}

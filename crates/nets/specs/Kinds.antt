@@ -1,5 +1,5 @@
 -- The kinds of arcs by their numbers.
-use Prim.Native.Nat.{ℕ, zero, suc}
+use Prim.Native.Nat.{ℕ}
 use mathlib.Core.Bool.{cond}
 use lib.Dec.{eqb}
 use Rattle.std.specs.declared.option.Option.{Option}

@@ -3,8 +3,6 @@ use mathlib.Core.Bool.{Bool, cond, _&&_}
 use mathlib.Core.List.{List, [], _∷_, _++_}
 use Prim.Native.Nat.{ℕ}
 use lib.Dec.{leb}
-use Rattle.std.specs.declared.option.Option.{Option}
-use Rattle.std.specs.declared.option.Option.the-variants.{None, Some}
 use Rattle.nets.specs.declared.quantity.Quantity.{Quantity}
 use Rattle.nets.specs.declared.quantity.Quantity.the-variants.{Places, Transitions, Lines, Outputs}
 
@@ -27,8 +25,3 @@ unless-in-range q n = cond (in-range q n) [] (q ∷ [])
 abbrev pub out-of-range : ℕ → ℕ → ℕ → ℕ → List Quantity
 out-of-range places transitions lines outputs =
     unless-in-range Places places ++ (unless-in-range Transitions transitions ++ (unless-in-range Lines lines ++ unless-in-range Outputs outputs))
-
--- the first of a list
-abbrev pub first-of : {X : Type 0} → List X → Option X
-first-of [] = None
-first-of (x ∷ xs) = Some x

@@ -1,5 +1,5 @@
 -- The net that the code's structs stand for, and what the methods that fill them do to it.
-use mathlib.Core.Bool.{Bool, true, false, cond, _&&_}
+use mathlib.Core.Bool.{Bool, cond, _&&_}
 use mathlib.Core.List.{List, [], _∷_, _++_, map}
 use Prim.Native.Nat.{ℕ}
 use lib.Bits.{bitOr}

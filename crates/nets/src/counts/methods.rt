@@ -1,6 +1,7 @@
 // How counts are made.
 ghost use mathlib.Core.Path.{_≡_};
-ghost use Rattle.nets.specs.Ranges.{first-of, out-of-range};
+ghost use Rattle.bitset.specs.Lists.{first-of};
+ghost use Rattle.nets.specs.Ranges.{out-of-range};
 ghost use Rattle.std.specs.Results.{errPart};
 ghost use Rattle.std.specs.Vec.{made};
 use super::Counts;

@@ -1,5 +1,4 @@
 use mathlib.Core.Path.{sym, ap, _∙_}
-use Prim.Native.Nat.{ℕ}
 use native.Mathlib.Omega.{arith}
 use Rattle.bitset.specs.Places.{lowest-in}
 use Rattle.bitset.proofs.Sets.{first-none, first-member, trailing-least, trailing-below}

@@ -1,9 +1,9 @@
-use mathlib.Core.Path.{_≡_, sym, ap, subst, _∙_}
+use mathlib.Core.Path.{ap, subst, _∙_}
 use Prim.Native.Nat.{ℕ, _<_}
 use Rattle.std.specs.declared.option.Option.the-variants.{Some}
 use Rattle.std.specs.Results.{errPart, isErr}
 use Rattle.std.proofs.shelf.Results.{err-from-errBy, made-from-err}
-use Rattle.nets.specs.Ranges.{first-of}
+use Rattle.bitset.specs.Lists.{first-of}
 use Rattle.nets.specs.Stored.{net-of}
 use Rattle.netfile.specs.Files.{term-record}
 use Rattle.netfile.specs.Steps.{put-term, term-wrong, with-term-put}

@@ -6,7 +6,7 @@ use Rattle.std.specs.declared.option.Option.the-variants.{Some}
 use Rattle.std.specs.Results.{errPart}
 use Rattle.std.proofs.shelf.Results.{err-from-errBy}
 use Rattle.nets.specs.Nets.{at}
-use Rattle.nets.specs.Ranges.{first-of}
+use Rattle.bitset.specs.Lists.{first-of}
 use Rattle.nets.specs.Stored.{net-of}
 use Rattle.netfile.specs.Rules.{each-below, transition-broken}
 use Rattle.netfile.proofs.Items.{item-at, as-long}
