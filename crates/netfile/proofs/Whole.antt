@@ -1,13 +1,13 @@
 -- From the layout, the counts and the filled net to the file as a whole.
 use mathlib.Core.Path.{_≡_, refl, sym, ap, ap₂, subst, _∙_}
-use mathlib.Core.Bool.{not}
+use mathlib.Core.Bool.{true, not, _||_}
 use mathlib.Core.List.{List, [], _∷_, _++_, map}
 use Prim.Native.Nat.{ℕ, _+_, _*_, _≤_, min}
 use native.Mathlib.Omega.{arith}
 use lib.Dec.{eqb, ltb}
 use lib.ListN.{length, drop, length-take, length-drop}
 use Rattle.std.proofs.shelf.Results.{made-weaker}
-use Rattle.std.proofs.shelf.Tests.{ltb-false, eqb-true, not-false}
+use Rattle.std.proofs.shelf.Tests.{ltb-false, le-leb, eqb-true, not-false, or-parts}
 use Rattle.std.specs.declared.option.Option.the-variants.{None, Some}
 use Rattle.std.specs.declared.result.Result.{Result}
 use Rattle.std.specs.declared.result.Result.the-variants.{Ok, Err}
@@ -22,10 +22,10 @@ use Rattle.nets.specs.declared.counts.Counts.{Counts}
 use Rattle.nets.specs.declared.net.Net.{Net as StoredNet}
 use Rattle.netfile.specs.declared.refusal.PairFault.the-variants.{StartsEarly, PassesEnd}
 use Rattle.netfile.specs.declared.refusal.Refusal.{Refusal}
-use Rattle.netfile.specs.declared.refusal.Refusal.the-variants.{Pair, Count, PlacesLength}
+use Rattle.netfile.specs.declared.refusal.Refusal.the-variants.{FileSize, Pair, Count, PlacesLength}
 use Rattle.netfile.specs.declared.table.Table.the-variants.{Places, Arcs, Terms}
 use Rattle.netfile.specs.Files.{places-said, transitions-said, lines-said, outputs-said, table-start, table-length, table-end, earliest, table-in, records, net-said, net-in}
-use Rattle.netfile.specs.Rules.{none-in, size-broken, pair-broken, pairs-broken, counts-broken, tables-broken, records-broken, unless-any, broken}
+use Rattle.netfile.specs.Rules.{none-in, size-broken, pair-broken, pairs-broken, counts-broken, tables-broken, records-broken, where-told, has-header, broken}
 use Rattle.netfile.specs.Says.{Says}
 use Rattle.netfile.specs.Steps.{filled-net, filling-wrong}
 use Rattle.netfile.proofs.Agreement.{filling-agrees, filled-is}
@@ -33,21 +33,34 @@ use Rattle.netfile.proofs.Lawful.{arcs-right, terms-right, well-formed}
 use Rattle.netfile.proofs.Says.{says}
 use Rattle.netfile.proofs.Lists.{both-empty, kept-rule, kept-last}
 
+-- a file of the right size has a header
+header-there : (file : List ℕ) → size-broken file ≡ [] → has-header file ≡ true
+header-there file e =
+    let right = or-parts (ltb (length file) 16) (ltb 16384 (length file)) (kept-last (ltb (length file) 16 || ltb 16384 (length file)) FileSize e) in
+    le-leb 16 (length file) (ltb-false (length file) 16 (right .0))
+
 -- what the layout breaks comes first of all
-pub layout-first : (s p r : List Refusal) (x : Refusal) → first-of (unless-any s p) ≡ Some x → first-of (unless-any s (unless-any p r)) ≡ Some x
-layout-first [] [] r x e = let z : _≡_ {A = ℕ} 0 1 = cc in absurd (omega arith)
-layout-first [] (y ∷ p) r x e = e
-layout-first (y ∷ s) p r x e = e
+pub layout-first : (file : List ℕ) (x : Refusal) → first-of (size-broken file ++ pairs-broken file) ≡ Some x → first-of (broken file) ≡ Some x
+layout-first file x e = go (size-broken file) (header-there file) e
+  where
+    rest : List Refusal
+    rest = counts-broken file ++ where-told (none-in (pairs-broken file)) (records-broken file)
 
--- where the layout breaks nothing, the rest tells
-pub layout-past : (s p r : List Refusal) → first-of (unless-any s p) ≡ None → unless-any s (unless-any p r) ≡ r
-layout-past [] [] r e = refl
-layout-past [] (y ∷ p) r e = let z : _≡_ {A = ℕ} 0 1 = cc in absurd (omega arith)
-layout-past (y ∷ s) p r e = let z : _≡_ {A = ℕ} 0 1 = cc in absurd (omega arith)
+    go : (s : List Refusal) → (s ≡ [] → has-header file ≡ true) → first-of (s ++ pairs-broken file) ≡ Some x
+        → first-of (s ++ where-told (has-header file) (pairs-broken file ++ rest)) ≡ Some x
+    go [] h f = ap (λ b. first-of (where-told b (pairs-broken file ++ rest))) (h refl) ∙ first-joined (pairs-broken file) rest x f
+    go (y ∷ s) h f = f
 
-pub pairs-right : (s p : List Refusal) → first-of (unless-any s p) ≡ None → p ≡ []
-pairs-right [] p e = none-first p e
-pairs-right (y ∷ s) p e = let z : _≡_ {A = ℕ} 0 1 = cc in absurd (omega arith)
+-- where the layout breaks nothing, the counts and the records tell
+pub layout-past : (file : List ℕ) → first-of (size-broken file ++ pairs-broken file) ≡ None → broken file ≡ counts-broken file ++ records-broken file
+layout-past file e =
+    let both = both-empty (size-broken file) (pairs-broken file) (none-first (size-broken file ++ pairs-broken file) e) in
+    ap (λ s. s ++ where-told (has-header file) (pairs-broken file ++ (counts-broken file ++ where-told (none-in (pairs-broken file)) (records-broken file)))) (both .0)
+    ∙ ap (λ b. where-told b (pairs-broken file ++ (counts-broken file ++ where-told (none-in (pairs-broken file)) (records-broken file)))) (header-there file (both .0))
+    ∙ ap (λ p. p ++ (counts-broken file ++ where-told (none-in p) (records-broken file))) (both .1)
+
+pub pairs-right : (file : List ℕ) → first-of (size-broken file ++ pairs-broken file) ≡ None → pairs-broken file ≡ []
+pairs-right file e = both-empty (size-broken file) (pairs-broken file) (none-first (size-broken file ++ pairs-broken file) e) .1
 
 -- counts that are those of the file
 pub record Tells (c : Counts) (file : List ℕ) : Type 0 where
@@ -57,7 +70,7 @@ pub record Tells (c : Counts) (file : List ℕ) : Type 0 where
   pub outputs : c .outputs ≡ outputs-said file
 
 module _ (file : List ℕ) (c : Counts) (tells : Tells c file)
-    (layout : first-of (unless-any (size-broken file) (pairs-broken file)) ≡ None) (counts : first-of (counts-broken file) ≡ None) where
+    (layout : first-of (size-broken file ++ pairs-broken file) ≡ None) (counts : first-of (counts-broken file) ≡ None) where
   -- the same of the counts and of what the file says
   same-counts : {X : Type 0} (f : ℕ → ℕ → ℕ → ℕ → X)
       → f (c .places) (c .transitions) (c .lines) (c .outputs) ≡ f (places-said file) (transitions-said file) (lines-said file) (outputs-said file)
@@ -67,7 +80,7 @@ module _ (file : List ℕ) (c : Counts) (tells : Tells c file)
 
   inside : table-end file Places ≤ length file
   inside =
-      let pair = both-empty (pair-broken file Places) _ (pairs-right (size-broken file) (pairs-broken file) layout) .0 in
+      let pair = both-empty (pair-broken file Places) _ (pairs-right file layout) .0 in
       let early = kept-rule (ltb (table-start file Places) (earliest file Places)) (Pair Places StartsEarly) _ pair in
       let past = kept-rule (ltb (length file) (table-end file Places)) (Pair Places PassesEnd) _ (early .1) in
       ltb-false (length file) (table-end file Places) (past .0)
@@ -82,7 +95,7 @@ module _ (file : List ℕ) (c : Counts) (tells : Tells c file)
       omega (arith, long, same, tells .places)
 
   pub broken-is : broken file ≡ counts-broken file ++ records-broken file
-  broken-is = layout-past (size-broken file) (pairs-broken file) (counts-broken file ++ records-broken file) layout
+  broken-is = layout-past file layout
 
   -- what the reader finds as it fills the net is what the file breaks
   pub reads : first-of (filling-wrong (blank-net c) (table-in file Places) (table-in file Arcs) (table-in file Terms)) ≡ first-of (broken file)
@@ -132,13 +145,13 @@ promised file (Ok n) e h =
 promised file (Err x) e h = record { refused = e; accepted = accepted-from (Err x) (broken file) e; granted = tt; said = tt; lawful = tt }
 
 -- what the counts break comes first, where the layout breaks nothing
-pub counts-first : (file : List ℕ) (x : Refusal) → first-of (unless-any (size-broken file) (pairs-broken file)) ≡ None → first-of (counts-broken file) ≡ Some x → first-of (broken file) ≡ Some x
+pub counts-first : (file : List ℕ) (x : Refusal) → first-of (size-broken file ++ pairs-broken file) ≡ None → first-of (counts-broken file) ≡ Some x → first-of (broken file) ≡ Some x
 counts-first file x layout e =
-    ap first-of (layout-past (size-broken file) (pairs-broken file) (counts-broken file ++ records-broken file) layout)
+    ap first-of (layout-past file layout)
     ∙ first-joined (counts-broken file) (records-broken file) x e
 
 -- the reader's answer, where neither the layout nor the counts break anything
-pub finished : (file : List ℕ) (c : Counts) → Tells c file → first-of (unless-any (size-broken file) (pairs-broken file)) ≡ None → first-of (counts-broken file) ≡ None
+pub finished : (file : List ℕ) (c : Counts) → Tells c file → first-of (size-broken file ++ pairs-broken file) ≡ None → first-of (counts-broken file) ≡ None
     → (ps ars ts : List ℕ) → ps ≡ table-in file Places → ars ≡ table-in file Arcs → ts ≡ table-in file Terms
     → (r : Result StoredNet Refusal) → errPart r ≡ first-of (filling-wrong (blank-net c) ps ars ts) → made r (λ n. net-of n ≡ filled-net (blank-net c) ps ars ts) → Promised file r
 finished file c tells layout counts ps ars ts p a t r e h =

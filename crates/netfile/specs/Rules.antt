@@ -41,6 +41,7 @@ pair-broken file t =
     ++ (where-broken (ltb (length file) (table-end file t)) (Pair t PassesEnd)
     ++ where-broken (not (eqb (table-length file t % record-size t) 0)) (Pair t BrokenRecord))
 
+-- the three pairs in turn
 abbrev pub pairs-broken : List ℕ → List Refusal
 pairs-broken file = pair-broken file Places ++ (pair-broken file Arcs ++ pair-broken file Terms)
 
@@ -97,13 +98,16 @@ transition-broken x t =
 abbrev pub start-broken : Net → List Refusal
 start-broken n = where-broken (eqb (n .start) 0) NoStartPlace
 
+-- what the records of the places break
 abbrev pub places-broken : ℕ → List ℕ → List Refusal
 places-broken outputs places = each-below (λ i. place-broken outputs (place-record places i) i) (records Places places)
 
+-- what the arcs below a record break
 abbrev pub arcs-broken : ℕ → ℕ → List ℕ → ℕ → List Refusal
 arcs-broken places transitions arcs =
     each-below (λ i. arc-broken places transitions (joined-before arcs (arc-record arcs i .transition) (arc-record arcs i .place) i) (arc-record arcs i) i)
 
+-- what the terms below a record break
 abbrev pub terms-broken : ℕ → ℕ → List ℕ → ℕ → List Refusal
 terms-broken transitions lines terms =
     each-below (λ i. term-broken transitions lines (length (term-list terms (term-record terms i .transition) i)) (term-record terms i) i)
@@ -124,16 +128,23 @@ tables-broken p t l o places arcs terms =
     ++ (terms-broken t l terms (records Terms terms)
     ++ net-broken (net-said p t l o places arcs terms)))
 
+-- what the records of a file break
 abbrev pub records-broken : List ℕ → List Refusal
 records-broken file =
     tables-broken (places-said file) (transitions-said file) (lines-said file) (outputs-said file)
     (table-in file Places) (table-in file Arcs) (table-in file Terms)
 
--- the second list, unless the first has something: what it speaks of cannot be told from the file before that is mended
-abbrev pub unless-any : List Refusal → List Refusal → List Refusal
-unless-any [] later = later
-unless-any (r ∷ rs) later = r ∷ rs
+-- the list, where what it speaks of can be told from the file
+abbrev pub where-told : Bool → List Refusal → List Refusal
+where-told true rs = rs
+where-told false rs = []
 
--- every rule that a file breaks, in the order in which they are tested
+-- the file has a header
+abbrev pub has-header : List ℕ → Bool
+has-header file = leb 16 (length file)
+
+-- every rule that a file breaks, in the order in which they are tested; the pairs and counts are told by a header, and the records by right pairs
 abbrev pub broken : List ℕ → List Refusal
-broken file = unless-any (size-broken file) (unless-any (pairs-broken file) (counts-broken file ++ records-broken file))
+broken file =
+    size-broken file
+    ++ where-told (has-header file) (pairs-broken file ++ (counts-broken file ++ where-told (none-in (pairs-broken file)) (records-broken file)))

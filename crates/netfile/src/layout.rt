@@ -1,11 +1,12 @@
 // Where the tables of a net file lie.
 ghost use Prim.Native.Nat.{_+_, _*_, _≤_};
+ghost use mathlib.Core.List.{_++_};
 ghost use mathlib.Core.Path.{_≡_};
 ghost use lib.ListN.{length};
 ghost use Rattle.bitset.specs.Lists.{first-of};
 ghost use Rattle.netfile.specs.declared.table.Table.the-variants.{Places, Arcs, Terms};
 ghost use Rattle.netfile.specs.Files.{two-bytes, table-in, table-end, earliest as earliest-start, places-said, transitions-said, lines-said, outputs-said};
-ghost use Rattle.netfile.specs.Rules.{size-broken, pair-broken, pairs-broken, counts-broken, unless-any};
+ghost use Rattle.netfile.specs.Rules.{size-broken, pair-broken, pairs-broken, counts-broken};
 ghost use Rattle.std.specs.Results.{errPart};
 ghost use Rattle.std.specs.Vec.{made};
 use crate::refusal::PairFault;
@@ -67,7 +68,7 @@ fn table_part<'a>(file: &'a [u8], table: Table, earliest: usize) -> Result<Part<
 
 // The three tables, or what is wrong with the file's size or with the first pair that is wrong.
 pub fn tables_in(file: &[u8]) -> Result<Tables<'_>, Refusal>
-    ensures refused { λ r. ⌜ errPart r ≡ first-of (unless-any (size-broken (now (file .entry))) (pairs-broken (now (file .entry)))) ⌝ }
+    ensures refused { λ r. ⌜ errPart r ≡ first-of (size-broken (now (file .entry)) ++ pairs-broken (now (file .entry))) ⌝ }
     ensures granted { λ r. ⌜ made r (λ t. (16 ≤ length (now (file .entry))) × (now (t .places) ≡ table-in (now (file .entry)) Places) × (now (t .arcs) ≡ table-in (now (file .entry)) Arcs) × (now (t .terms) ≡ table-in (now (file .entry)) Terms)) ⌝ }
 {
     if file.len() < SHORTEST || file.len() > LONGEST {

@@ -1,9 +1,7 @@
 use mathlib.Core.Path.{sym, ap, _∙_}
-use mathlib.Core.List.{_++_}
 use Rattle.std.specs.declared.option.Option.the-variants.{Some}
 use Rattle.std.specs.Results.{errPart, isErr}
 use Rattle.std.proofs.shelf.Results.{err-from-errBy, made-from-err}
-use Rattle.netfile.specs.Rules.{size-broken, pairs-broken, counts-broken, records-broken}
 use Rattle.netfile.proofs.Whole.{Tells, layout-first, counts-first, promised, finished}
 use Rattle.netfile.proofs.reader.read.Needs as need
 
@@ -13,7 +11,7 @@ returns-in-Break-tables c =
     let file = c .args .file .now in
     let all = promised file (c .from-residual .result)
     (ap errPart (p .1)
-    ∙ sym (layout-first (size-broken file) (pairs-broken file) (counts-broken file ++ records-broken file) (p .0)
+    ∙ sym (layout-first file (p .0)
     (sym (c .in-Break-tables .ensures tt .refused) ∙ ap Some (sym (p .2)))))
     (made-from-err (c .from-residual .result) _ (ap isErr (p .1))) in
     record { refused = all .refused; accepted = all .accepted; granted = all .granted; said = all .said; lawful = all .lawful }
