@@ -4,42 +4,42 @@ ghost use Rattle.bitset.specs.Places.{with-place, lowest-in, how-many};
 ghost use Rattle.bitset.specs.Sets.{has as has-member, within as is-within, apart as is-apart, without as taken-away};
 
 // Whether number `n` is in `word`; none above 63 is.
-pub fn has(word: u64, n: usize) -> bool
+pub(crate) fn has(word: u64, n: usize) -> bool
     ensures { λ r. ⌜ r ≡ has-member word n ⌝ }
 {
     n < 64 && word >> n & 1 == 1
 }
 
 // Whether each number in `part` is in `whole`.
-pub fn within(part: u64, whole: u64) -> bool
+pub(crate) fn within(part: u64, whole: u64) -> bool
     ensures { λ r. ⌜ r ≡ is-within part whole ⌝ }
 {
     part & whole == part
 }
 
 // Whether the two have no number in common.
-pub fn apart(one: u64, other: u64) -> bool
+pub(crate) fn apart(one: u64, other: u64) -> bool
     ensures { λ r. ⌜ r ≡ is-apart one other ⌝ }
 {
     one & other == 0
 }
 
 // The word and number `n`; the word as it is where there is no room for it.
-pub fn with(word: u64, n: usize) -> u64
+pub(crate) fn with(word: u64, n: usize) -> u64
     ensures { λ r. ⌜ r ≡ with-place word n ⌝ }
 {
     if n < 64 { word | 1 << n } else { word }
 }
 
 // The numbers of `word` that are not in `other`.
-pub fn without(word: u64, other: u64) -> u64
+pub(crate) fn without(word: u64, other: u64) -> u64
     ensures { λ r. ⌜ r ≡ taken-away word other ⌝ }
 {
     word & !other
 }
 
 // The lowest number in `word`.
-pub fn lowest(word: u64) -> Option<usize>
+pub(crate) fn lowest(word: u64) -> Option<usize>
     ensures { λ r. ⌜ r ≡ lowest-in word ⌝ }
 {
     if word == 0 {
@@ -49,7 +49,7 @@ pub fn lowest(word: u64) -> Option<usize>
 }
 
 // How many numbers are in `word`.
-pub fn count(word: u64) -> usize
+pub(crate) fn count(word: u64) -> usize
     ensures { λ r. ⌜ r ≡ how-many word ⌝ }
 {
     word.count_ones() as usize

@@ -36,7 +36,7 @@ fn put_arc(net: &mut Net, index: usize, arc: ArcRecord) -> Result<(), Refusal>
 }
 
 // Puts the arcs of the table into the net, up to the first record that breaks a rule.
-pub fn put_arcs(net: &mut Net, table: &[u8]) -> Result<(), Refusal>
+pub(crate) fn put_arcs(net: &mut Net, table: &[u8]) -> Result<(), Refusal>
     ensures refused { λ r. ⌜ errPart r ≡ first-of (arcs-wrong (net-of (now (net .entry))) (now (table .entry))) ⌝ }
     ensures granted { λ r. ⌜ made r (λ _. net-of (now (net .exit)) ≡ with-arcs (net-of (now (net .entry))) (now (table .entry))) ⌝ }
 {

@@ -30,7 +30,7 @@ struct Part<'a> {
 
 // The bytes of the three tables.
 #[derive(Clone, Copy)]
-pub struct Tables<'a> {
+pub(crate) struct Tables<'a> {
     pub places: &'a [u8],
     pub arcs: &'a [u8],
     pub terms: &'a [u8],
@@ -67,7 +67,7 @@ fn table_part<'a>(file: &'a [u8], table: Table, earliest: usize) -> Result<Part<
 }
 
 // The three tables, or what is wrong with the file's size or with the first pair that is wrong.
-pub fn tables_in(file: &[u8]) -> Result<Tables<'_>, Refusal>
+pub(crate) fn tables_in(file: &[u8]) -> Result<Tables<'_>, Refusal>
     ensures refused { λ r. ⌜ errPart r ≡ first-of (size-broken (now (file .entry)) ++ pairs-broken (now (file .entry))) ⌝ }
     ensures granted { λ r. ⌜ made r (λ t. (16 ≤ length (now (file .entry))) × (now (t .places) ≡ table-in (now (file .entry)) Places) × (now (t .arcs) ≡ table-in (now (file .entry)) Arcs) × (now (t .terms) ≡ table-in (now (file .entry)) Terms)) ⌝ }
 {
@@ -85,7 +85,7 @@ pub fn tables_in(file: &[u8]) -> Result<Tables<'_>, Refusal>
 }
 
 // The counts in the file's first bytes, or the first that is out of range, or that the places table is of another length.
-pub fn counts_in(file: &[u8]) -> Result<Counts, Refusal>
+pub(crate) fn counts_in(file: &[u8]) -> Result<Counts, Refusal>
     requires { ⌜ 16 ≤ length (now file) ⌝ }
     ensures refused { λ r. ⌜ errPart r ≡ first-of (counts-broken (now (file .entry))) ⌝ }
     ensures granted { λ r. ⌜ made r (λ c. (c .places ≡ places-said (now (file .entry))) × (c .transitions ≡ transitions-said (now (file .entry))) × (c .lines ≡ lines-said (now (file .entry))) × (c .outputs ≡ outputs-said (now (file .entry)))) ⌝ }

@@ -30,7 +30,7 @@ fn put_place(net: &mut Net, index: usize, place: PlaceRecord) -> Result<(), Refu
 }
 
 // Puts the places of the table into the net, up to the first record that breaks a rule.
-pub fn put_places(net: &mut Net, table: &[u8]) -> Result<(), Refusal>
+pub(crate) fn put_places(net: &mut Net, table: &[u8]) -> Result<(), Refusal>
     ensures refused { λ r. ⌜ errPart r ≡ first-of (places-wrong (net-of (now (net .entry))) (now (table .entry))) ⌝ }
     ensures granted { λ r. ⌜ made r (λ _. net-of (now (net .exit)) ≡ with-places (net-of (now (net .entry))) (now (table .entry))) ⌝ }
 {

@@ -29,7 +29,7 @@ pub struct TermRecord {
 }
 
 // How many records the bytes of `table` have.
-pub fn record_count(table: Table, bytes: &[u8]) -> usize
+pub(crate) fn record_count(table: Table, bytes: &[u8]) -> usize
     ensures { λ r. ⌜ r ≡ records table (now (bytes .entry)) ⌝ }
 {
     match table {
@@ -48,7 +48,7 @@ fn word_at(bytes: &[u8], at: usize) -> u32
 }
 
 // Record `index` of the places.
-pub fn place_at(table: &[u8], index: usize) -> PlaceRecord
+pub(crate) fn place_at(table: &[u8], index: usize) -> PlaceRecord
     requires { ⌜ 5 * index + 5 ≤ length (now table) ⌝ }
     ensures { λ r. ⌜ r ≡ place-record (now (table .entry)) index ⌝ }
 {
@@ -60,7 +60,7 @@ pub fn place_at(table: &[u8], index: usize) -> PlaceRecord
 }
 
 // Record `index` of the arcs.
-pub fn arc_at(table: &[u8], index: usize) -> ArcRecord
+pub(crate) fn arc_at(table: &[u8], index: usize) -> ArcRecord
     requires { ⌜ 3 * index + 3 ≤ length (now table) ⌝ }
     ensures { λ r. ⌜ r ≡ arc-record (now (table .entry)) index ⌝ }
 {
@@ -73,7 +73,7 @@ pub fn arc_at(table: &[u8], index: usize) -> ArcRecord
 }
 
 // Record `index` of the terms.
-pub fn term_at(table: &[u8], index: usize) -> TermRecord
+pub(crate) fn term_at(table: &[u8], index: usize) -> TermRecord
     requires { ⌜ 9 * index + 9 ≤ length (now table) ⌝ }
     ensures { λ r. ⌜ r ≡ term-record (now (table .entry)) index ⌝ }
 {

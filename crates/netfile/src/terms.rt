@@ -53,7 +53,7 @@ fn put_term(net: &mut Net, index: usize, found: TermRecord) -> Result<(), Refusa
 }
 
 // Puts the terms of the table into the net, up to the first record that breaks a rule.
-pub fn put_terms(net: &mut Net, table: &[u8]) -> Result<(), Refusal>
+pub(crate) fn put_terms(net: &mut Net, table: &[u8]) -> Result<(), Refusal>
     ensures refused { λ r. ⌜ errPart r ≡ first-of (terms-wrong (net-of (now (net .entry))) (now (table .entry))) ⌝ }
     ensures granted { λ r. ⌜ made r (λ _. net-of (now (net .exit)) ≡ with-terms (net-of (now (net .entry))) (now (table .entry))) ⌝ }
 {

@@ -32,7 +32,7 @@ fn check_transitions(net: &Net) -> Result<(), Refusal>
 }
 
 // The first rule on transitions or on the start that the net breaks.
-pub fn check_net(net: &Net) -> Result<(), Refusal>
+pub(crate) fn check_net(net: &Net) -> Result<(), Refusal>
     ensures { λ r. ⌜ errPart r ≡ first-of (net-broken (net-of (now (net .entry)))) ⌝ }
 {
     check_transitions(net)?;
