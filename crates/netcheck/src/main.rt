@@ -7,7 +7,7 @@ use command::HELP;
 use failure::Failure;
 use failure::FailureFromAlloc;
 use failure::FailureFromIo;
-use netfile::Refusal;
+use netlayout::Refusal;
 use nets::Net;
 use nettext::CodeText;
 use nettext::CodeTextDisplay;

@@ -15,7 +15,7 @@ use Rattle.nets.specs.Nets.{Net, unconnected, at}
 use Rattle.bitset.specs.Lists.{first-of}
 use Rattle.nets.specs.Stored.{joined-places, blank-net}
 use Rattle.nets.specs.declared.counts.Counts.{Counts}
-use Rattle.netfile.specs.declared.table.Table.the-variants.{Places, Arcs, Terms}
+use Rattle.netlayout.specs.declared.table.Table.the-variants.{Places, Arcs, Terms}
 use Rattle.netfile.specs.Files.{records, place-record, arc-record, term-record, term-list, net-said}
 use Rattle.netfile.specs.Rules.{place-broken, arc-broken, term-broken, places-broken, arcs-broken, terms-broken, net-broken, tables-broken, joined-before}
 use Rattle.netfile.specs.Steps.{put-below, put-place, put-arc, put-term, place-wrong, arc-wrong, term-wrong, places-wrong, arcs-wrong, terms-wrong, with-places, with-arcs, with-terms, filled-net, filling-wrong}

@@ -11,9 +11,9 @@ use Rattle.nets.specs.declared.term.Term.{Term}
 use Rattle.netfile.specs.declared.records.ArcRecord.{ArcRecord}
 use Rattle.netfile.specs.declared.records.PlaceRecord.{PlaceRecord}
 use Rattle.netfile.specs.declared.records.TermRecord.{TermRecord}
-use Rattle.netfile.specs.declared.refusal.RecordFault.the-variants.{StartMark, Output, Transition, Place, Kind, HighLine, LowLine}
-use Rattle.netfile.specs.declared.refusal.Refusal.the-variants.{Record, RepeatedArc, LineInBothWords, FifthTerm}
-use Rattle.netfile.specs.declared.table.Table.the-variants.{Places, Arcs, Terms}
+use Rattle.netlayout.specs.declared.refusal.RecordFault.the-variants.{StartMark, Output, Transition, Place, Kind, HighLine, LowLine}
+use Rattle.netlayout.specs.declared.refusal.Refusal.the-variants.{Record, RepeatedArc, LineInBothWords, FifthTerm}
+use Rattle.netlayout.specs.declared.table.Table.the-variants.{Places, Arcs, Terms}
 use Rattle.netfile.specs.Files.{arc-record, term-record, term-list}
 use Rattle.netfile.specs.Rules.{place-broken, arc-broken, term-broken, words-broken, arcs-broken, terms-broken, joined-before}
 use Rattle.netfile.proofs.Lists.{both-empty, none-at, kept-rule, kept-last}

@@ -18,11 +18,12 @@ use Rattle.bitset.proofs.Sets.{has-only, has-below, has-none, within-from, with
 use Rattle.nets.specs.Nets.{Net, unconnected, at}
 use Rattle.nets.specs.WellFormed.{WellFormedTerm, WellFormedTransition, WellFormed, always}
 use Rattle.nets.specs.declared.counts.Counts.{Counts}
-use Rattle.netfile.specs.declared.refusal.Refusal.{Refusal}
-use Rattle.netfile.specs.declared.refusal.Refusal.the-variants.{MovesNothing, NoTerm, NoStartPlace}
-use Rattle.netfile.specs.declared.table.Table.the-variants.{Places, Arcs, Terms}
+use Rattle.netlayout.specs.declared.refusal.Refusal.{Refusal}
+use Rattle.netlayout.specs.declared.refusal.Refusal.the-variants.{MovesNothing, NoTerm, NoStartPlace}
+use Rattle.netlayout.specs.declared.table.Table.the-variants.{Places, Arcs, Terms}
 use Rattle.netfile.specs.Files.{records, place-record, arc-record, term-record, start-places, arc-of, arc-places, term-list, transition-said, net-said}
-use Rattle.netfile.specs.Rules.{none-in, place-broken, transition-broken, places-broken, arcs-broken, terms-broken, transitions-broken, start-broken, net-broken, tables-broken, joined-before}
+use Rattle.bitset.specs.Lists.{none-in}
+use Rattle.netfile.specs.Rules.{place-broken, transition-broken, places-broken, arcs-broken, terms-broken, transitions-broken, start-broken, net-broken, tables-broken, joined-before}
 use Rattle.netfile.proofs.Counted.{counted-at}
 use Rattle.netfile.proofs.Joined.{has-arc, eqb-comm}
 use Rattle.netfile.proofs.Kept.{TermKept, WordsKept, place-kept, arcs-kept, terms-kept}

@@ -10,8 +10,9 @@ use Rattle.std.proofs.shelf.Tests.{cases-lt}
 use Rattle.std.specs.declared.option.Option.the-variants.{None, Some}
 use Rattle.bitset.specs.Lists.{first-of}
 use Rattle.bitset.proofs.Lists.{none-first, first-joined, first-past}
-use Rattle.netfile.specs.declared.refusal.Refusal.{Refusal}
-use Rattle.netfile.specs.Rules.{each-below, where-broken}
+use Rattle.netlayout.specs.declared.refusal.Refusal.{Refusal}
+use Rattle.netfile.specs.Rules.{each-below}
+use Rattle.netlayout.specs.Rules.{where-broken}
 
 -- nothing is broken below i, nor at i
 pub none-more : (f : ℕ → List Refusal) (i : ℕ) → each-below f i ≡ [] → first-of (f i) ≡ None → each-below f (i + 1) ≡ []

@@ -20,8 +20,9 @@ use Rattle.bitset.specs.Sets.{has, only}
 use Rattle.bitset.proofs.Sets.{has-or, has-only, has-none}
 use Rattle.nets.specs.Nets.{Transition, unconnected, at}
 use Rattle.netfile.specs.declared.records.ArcRecord.{ArcRecord}
-use Rattle.netfile.specs.declared.table.Table.the-variants.{Places, Arcs, Terms}
-use Rattle.netfile.specs.Files.{places-said, transitions-said, table-in, records, place-record, arc-record, term-record, start-places, arc-of, arc-places, term-list, transition-said, net-in}
+use Rattle.netlayout.specs.declared.table.Table.the-variants.{Places, Arcs, Terms}
+use Rattle.netlayout.specs.Layouts.{places-said, transitions-said, table-in}
+use Rattle.netfile.specs.Files.{records, place-record, arc-record, term-record, start-places, arc-of, arc-places, term-list, transition-said, net-in}
 use Rattle.netfile.specs.Says.{Has-arc, Says}
 use Rattle.netfile.proofs.Counted.{counted-at}
 use Rattle.netfile.proofs.Joined.{has-arc}

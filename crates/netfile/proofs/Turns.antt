@@ -6,7 +6,7 @@ use native.Mathlib.Numerals.{add-one}
 use Rattle.std.specs.declared.option.Option.the-variants.{None, Some}
 use Rattle.nets.specs.Nets.{Net}
 use Rattle.bitset.specs.Lists.{first-of}
-use Rattle.netfile.specs.declared.refusal.Refusal.{Refusal}
+use Rattle.netlayout.specs.declared.refusal.Refusal.{Refusal}
 use Rattle.netfile.specs.Steps.{put-below, wrong-below}
 use Rattle.netfile.proofs.Lists.{none-more, first-at}
 

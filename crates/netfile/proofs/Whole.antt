@@ -20,12 +20,15 @@ use Rattle.nets.specs.Stored.{blank-net, net-of}
 use Rattle.nets.specs.WellFormed.{WellFormed}
 use Rattle.nets.specs.declared.counts.Counts.{Counts}
 use Rattle.nets.specs.declared.net.Net.{Net as StoredNet}
-use Rattle.netfile.specs.declared.refusal.PairFault.the-variants.{StartsEarly, PassesEnd}
-use Rattle.netfile.specs.declared.refusal.Refusal.{Refusal}
-use Rattle.netfile.specs.declared.refusal.Refusal.the-variants.{FileSize, Pair, Count, PlacesLength}
-use Rattle.netfile.specs.declared.table.Table.the-variants.{Places, Arcs, Terms}
-use Rattle.netfile.specs.Files.{places-said, transitions-said, lines-said, outputs-said, table-start, table-length, table-end, earliest, table-in, records, net-said, net-in}
-use Rattle.netfile.specs.Rules.{none-in, size-broken, pair-broken, pairs-broken, counts-broken, tables-broken, records-broken, where-told, has-header, broken}
+use Rattle.netlayout.specs.declared.refusal.PairFault.the-variants.{StartsEarly, PassesEnd}
+use Rattle.netlayout.specs.declared.refusal.Refusal.{Refusal}
+use Rattle.netlayout.specs.declared.refusal.Refusal.the-variants.{FileSize, Pair, Count, PlacesLength}
+use Rattle.netlayout.specs.declared.table.Table.the-variants.{Places, Arcs, Terms}
+use Rattle.netlayout.specs.Layouts.{places-said, transitions-said, lines-said, outputs-said, table-start, table-length, table-end, earliest, table-in}
+use Rattle.netfile.specs.Files.{records, net-said, net-in}
+use Rattle.bitset.specs.Lists.{none-in}
+use Rattle.netlayout.specs.Rules.{size-broken, pair-broken, pairs-broken, counts-broken, where-told, has-header}
+use Rattle.netfile.specs.Rules.{tables-broken, records-broken, broken}
 use Rattle.netfile.specs.Says.{Says}
 use Rattle.netfile.specs.Steps.{filled-net, filling-wrong}
 use Rattle.netfile.proofs.Agreement.{filling-agrees, filled-is}

@@ -4,7 +4,7 @@ use mathlib.Core.List.{List, [], _∷_, _++_, map}
 use Prim.Native.Nat.{ℕ, zero, suc, _+_, _*_, _/_}
 use lib.Bits.{bitOr}
 use lib.Dec.{eqb}
-use lib.ListN.{length, getD, take, drop}
+use lib.ListN.{length}
 use Rattle.std.specs.Iters.{counting}
 use Rattle.bitset.specs.Sets.{only}
 use Rattle.nets.specs.Nets.{Net, Transition}
@@ -12,54 +12,14 @@ use Rattle.nets.specs.declared.term.Term.{Term}
 use Rattle.netfile.specs.declared.records.ArcRecord.{ArcRecord}
 use Rattle.netfile.specs.declared.records.PlaceRecord.{PlaceRecord}
 use Rattle.netfile.specs.declared.records.TermRecord.{TermRecord}
-use Rattle.netfile.specs.declared.table.Table.{Table}
-use Rattle.netfile.specs.declared.table.Table.the-variants.{Places, Arcs, Terms}
-use Rattle.netfile.specs.Tables.{pair-place, record-size}
-
--- byte i, and 0 past the end
-abbrev pub byte : List ℕ → ℕ → ℕ
-byte bs i = getD bs i 0
-
--- the number in two bytes, the higher byte first
-abbrev pub two-bytes : List ℕ → ℕ → ℕ
-two-bytes bs i = byte bs i * 256 + byte bs (i + 1)
+use Rattle.netlayout.specs.declared.table.Table.{Table}
+use Rattle.netlayout.specs.declared.table.Table.the-variants.{Places, Arcs, Terms}
+use Rattle.netlayout.specs.Tables.{record-size}
+use Rattle.netlayout.specs.Layouts.{byte, places-said, transitions-said, lines-said, outputs-said, table-in}
 
 -- the number in four bytes, the highest byte first
 abbrev pub four-bytes : List ℕ → ℕ → ℕ
 four-bytes bs i = byte bs i * 16777216 + byte bs (i + 1) * 65536 + byte bs (i + 2) * 256 + byte bs (i + 3)
-
--- how many places, transitions, lines and outputs the file says
-abbrev pub places-said : List ℕ → ℕ
-places-said file = byte file 0
-
-abbrev pub transitions-said : List ℕ → ℕ
-transitions-said file = byte file 1
-
-abbrev pub lines-said : List ℕ → ℕ
-lines-said file = byte file 2
-
-abbrev pub outputs-said : List ℕ → ℕ
-outputs-said file = byte file 3
-
--- where a table starts, how many bytes it has, and where it ends
-abbrev pub table-start : List ℕ → Table → ℕ
-table-start file t = two-bytes file (pair-place t)
-
-abbrev pub table-length : List ℕ → Table → ℕ
-table-length file t = two-bytes file (pair-place t + 2)
-
-abbrev pub table-end : List ℕ → Table → ℕ
-table-end file t = table-start file t + table-length file t
-
--- where a table may start at the earliest: at byte 16, or at the end of the table before
-abbrev pub earliest : List ℕ → Table → ℕ
-earliest file Places = 16
-earliest file Arcs = table-end file Places
-earliest file Terms = table-end file Arcs
-
--- the bytes of a table
-abbrev pub table-in : List ℕ → Table → List ℕ
-table-in file t = take (table-length file t) (drop (table-start file t) file)
 
 -- how many records the bytes of a table have
 abbrev pub records : Table → List ℕ → ℕ

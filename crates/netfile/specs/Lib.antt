@@ -1,5 +1,3 @@
-pub mod Tables
-pub mod Codes
 pub mod Files
 pub mod Rules
 pub mod Steps

@@ -1,55 +1,28 @@
 -- The rules on a net file: every rule that a file breaks, in the order in which they are tested.
-use mathlib.Core.Bool.{Bool, true, false, not, _&&_, _||_}
-use mathlib.Core.List.{List, [], _∷_, _++_, map}
-use Prim.Native.Nat.{ℕ, zero, suc, _+_, _*_, _%_}
+use mathlib.Core.Bool.{Bool, false, not, _&&_, _||_}
+use mathlib.Core.List.{List, [], _++_}
+use Prim.Native.Nat.{ℕ, zero, suc, _+_}
 use lib.Dec.{eqb, leb, ltb}
 use lib.ListN.{length}
 use Rattle.bitset.specs.Sets.{within, apart, below}
 use Rattle.nets.specs.Nets.{Net, Transition as NetTransition, at}
-use Rattle.nets.specs.Ranges.{out-of-range}
 use Rattle.nets.specs.declared.term.Term.{Term}
 use Rattle.netfile.specs.declared.records.ArcRecord.{ArcRecord}
 use Rattle.netfile.specs.declared.records.PlaceRecord.{PlaceRecord}
 use Rattle.netfile.specs.declared.records.TermRecord.{TermRecord}
-use Rattle.netfile.specs.declared.refusal.PairFault.the-variants.{StartsEarly, PassesEnd, BrokenRecord}
-use Rattle.netfile.specs.declared.refusal.RecordFault.the-variants.{StartMark, Output, Transition, Place, Kind, HighLine, LowLine}
-use Rattle.netfile.specs.declared.refusal.Refusal.{Refusal}
-use Rattle.netfile.specs.declared.refusal.Refusal.the-variants.{FileSize, Pair, Count, PlacesLength, Record, RepeatedArc, LineInBothWords, FifthTerm, MovesNothing, NoTerm, NoStartPlace}
-use Rattle.netfile.specs.declared.table.Table.{Table}
-use Rattle.netfile.specs.declared.table.Table.the-variants.{Places, Arcs, Terms}
-use Rattle.netfile.specs.Tables.{record-size}
-use Rattle.netfile.specs.Files.{places-said, transitions-said, lines-said, outputs-said, table-start, table-length, table-end, earliest, table-in, records, place-record, arc-record, term-record, term-list, net-said}
-
--- the refusal, where its rule is broken
-abbrev pub where-broken : Bool → Refusal → List Refusal
-where-broken true r = r ∷ []
-where-broken false r = []
+use Rattle.netlayout.specs.declared.refusal.RecordFault.the-variants.{StartMark, Output, Transition, Place, Kind, HighLine, LowLine}
+use Rattle.netlayout.specs.declared.refusal.Refusal.{Refusal}
+use Rattle.netlayout.specs.declared.refusal.Refusal.the-variants.{Record, RepeatedArc, LineInBothWords, FifthTerm, MovesNothing, NoTerm, NoStartPlace}
+use Rattle.netlayout.specs.declared.table.Table.the-variants.{Places, Arcs, Terms}
+use Rattle.netlayout.specs.Layouts.{places-said, transitions-said, lines-said, outputs-said, table-in}
+use Rattle.netfile.specs.Files.{records, place-record, arc-record, term-record, term-list, net-said}
+use Rattle.bitset.specs.Lists.{none-in}
+use Rattle.netlayout.specs.Rules.{where-broken, where-told, has-header, size-broken, pairs-broken, counts-broken}
 
 -- what is broken for each number below k, in rising order
 abbrev pub each-below : (ℕ → List Refusal) → ℕ → List Refusal
 each-below f zero = []
 each-below f (suc i) = each-below f i ++ f i
-
--- a file has 16 to 16,384 bytes
-abbrev pub size-broken : List ℕ → List Refusal
-size-broken file = where-broken (ltb (length file) 16 || ltb 16384 (length file)) FileSize
-
--- a table starts neither before byte 16 nor before the end of the table before, ends within the file, and has whole records
-abbrev pub pair-broken : List ℕ → Table → List Refusal
-pair-broken file t =
-    where-broken (ltb (table-start file t) (earliest file t)) (Pair t StartsEarly)
-    ++ (where-broken (ltb (length file) (table-end file t)) (Pair t PassesEnd)
-    ++ where-broken (not (eqb (table-length file t % record-size t) 0)) (Pair t BrokenRecord))
-
--- the three pairs in turn
-abbrev pub pairs-broken : List ℕ → List Refusal
-pairs-broken file = pair-broken file Places ++ (pair-broken file Arcs ++ pair-broken file Terms)
-
--- each count is in its range, and the places table has a record for each place
-abbrev pub counts-broken : List ℕ → List Refusal
-counts-broken file =
-    map Count (out-of-range (places-said file) (transitions-said file) (lines-said file) (outputs-said file))
-    ++ where-broken (not (eqb (table-length file Places) (5 * places-said file))) PlacesLength
 
 -- a place's start mark is 0 or 1, and it raises outputs of the net only
 abbrev pub place-broken : ℕ → PlaceRecord → ℕ → List Refusal
@@ -83,11 +56,6 @@ term-broken transitions lines earlier r i =
     where-broken (leb transitions (r .transition)) (Record Terms i Transition)
     ++ (words-broken lines (r .term) i
     ++ where-broken (leb 4 earlier) (FifthTerm i))
-
--- whether a list is empty
-abbrev pub none-in : {X : Type 0} → List X → Bool
-none-in [] = true
-none-in (x ∷ xs) = false
 
 -- a transition consumes or produces something, and has a term
 abbrev pub transition-broken : NetTransition → ℕ → List Refusal
@@ -133,15 +101,6 @@ abbrev pub records-broken : List ℕ → List Refusal
 records-broken file =
     tables-broken (places-said file) (transitions-said file) (lines-said file) (outputs-said file)
     (table-in file Places) (table-in file Arcs) (table-in file Terms)
-
--- the list, where what it speaks of can be told from the file
-abbrev pub where-told : Bool → List Refusal → List Refusal
-where-told true rs = rs
-where-told false rs = []
-
--- the file has a header
-abbrev pub has-header : List ℕ → Bool
-has-header file = leb 16 (length file)
 
 -- every rule that a file breaks, in the order in which they are tested; the pairs and counts are told by a header, and the records by right pairs
 abbrev pub broken : List ℕ → List Refusal

@@ -11,8 +11,9 @@ use Rattle.bitset.specs.Sets.{has}
 use Rattle.nets.specs.Nets.{Net, at}
 use Rattle.nets.specs.declared.term.Term.{Term}
 use Rattle.netfile.specs.declared.records.TermRecord.{TermRecord}
-use Rattle.netfile.specs.declared.table.Table.the-variants.{Places, Arcs, Terms}
-use Rattle.netfile.specs.Files.{places-said, transitions-said, lines-said, outputs-said, table-in, records, place-record, arc-record, term-record}
+use Rattle.netlayout.specs.declared.table.Table.the-variants.{Places, Arcs, Terms}
+use Rattle.netlayout.specs.Layouts.{places-said, transitions-said, lines-said, outputs-said, table-in}
+use Rattle.netfile.specs.Files.{records, place-record, arc-record, term-record}
 
 -- the file has an arc of transition t and place p of the kind with this number
 abbrev pub Has-arc : List ℕ → ℕ → ℕ → ℕ → Type 0

@@ -13,8 +13,8 @@ use Rattle.nets.specs.declared.arc_kind.ArcKind.{ArcKind}
 use Rattle.netfile.specs.declared.records.ArcRecord.{ArcRecord}
 use Rattle.netfile.specs.declared.records.PlaceRecord.{PlaceRecord}
 use Rattle.netfile.specs.declared.records.TermRecord.{TermRecord}
-use Rattle.netfile.specs.declared.refusal.Refusal.{Refusal}
-use Rattle.netfile.specs.declared.table.Table.the-variants.{Places, Arcs, Terms}
+use Rattle.netlayout.specs.declared.refusal.Refusal.{Refusal}
+use Rattle.netlayout.specs.declared.table.Table.the-variants.{Places, Arcs, Terms}
 use Rattle.netfile.specs.Files.{records, place-record, arc-record, term-record}
 use Rattle.netfile.specs.Rules.{each-below, place-broken, arc-broken, term-broken, net-broken}
 

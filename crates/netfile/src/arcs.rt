@@ -8,9 +8,9 @@ ghost use Rattle.std.specs.Vec.{made};
 use crate::records::ArcRecord;
 use crate::records::arc_at;
 use crate::records::record_count;
-use crate::refusal::RecordFault;
-use crate::refusal::Refusal;
-use crate::table::Table;
+use netlayout::RecordFault;
+use netlayout::Refusal;
+use netlayout::Table;
 use nets::ArcKind;
 use nets::Net;
 

@@ -1,20 +1,9 @@
-// The net file: its layout, its rules on records, and the reader.
+// The net file: its records, the rules on them, and the reader.
 mod arcs;
-mod layout;
 mod places;
 mod reader;
 mod records;
-mod refusal;
-mod table;
 mod terms;
 mod transitions;
 
-pub use layout::LONGEST;
-pub use layout::SHORTEST;
 pub use reader::read;
-pub use refusal::PairFault;
-pub use refusal::RecordFault;
-pub use refusal::Refusal;
-pub use refusal::RefusalCode;
-pub use refusal::RefusalCodePartialEq;
-pub use table::Table;

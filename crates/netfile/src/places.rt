@@ -8,10 +8,10 @@ ghost use Rattle.std.specs.Vec.{made};
 use crate::records::PlaceRecord;
 use crate::records::place_at;
 use crate::records::record_count;
-use crate::refusal::RecordFault;
-use crate::refusal::Refusal;
-use crate::table::Table;
 use bitset::words;
+use netlayout::RecordFault;
+use netlayout::Refusal;
+use netlayout::Table;
 use nets::Net;
 
 // Puts place `index` into the net, or says which rule its record breaks.

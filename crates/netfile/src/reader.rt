@@ -1,22 +1,22 @@
 // The reader of net files.
 ghost use mathlib.Core.Path.{_≡_};
 ghost use Rattle.netfile.specs.Files.{net-in};
-ghost use Rattle.netfile.specs.Rules.{broken, none-in};
+ghost use Rattle.netfile.specs.Rules.{broken};
 ghost use Rattle.netfile.specs.Says.{Says};
 ghost use Rattle.netfile.specs.Steps.{filled-net, filling-wrong};
-ghost use Rattle.bitset.specs.Lists.{first-of};
+ghost use Rattle.bitset.specs.Lists.{first-of, none-in};
 ghost use Rattle.nets.specs.Stored.{net-of, blank-net};
 ghost use Rattle.nets.specs.WellFormed.{WellFormed};
 ghost use Rattle.std.specs.Results.{errPart, isOk};
 ghost use Rattle.std.specs.Vec.{made};
 use crate::arcs::put_arcs;
-use crate::layout::Tables;
-use crate::layout::counts_in;
-use crate::layout::tables_in;
 use crate::places::put_places;
-use crate::refusal::Refusal;
 use crate::terms::put_terms;
 use crate::transitions::check_net;
+use netlayout::Refusal;
+use netlayout::Tables;
+use netlayout::counts_in;
+use netlayout::tables_in;
 use nets::Counts;
 use nets::Net;
 

@@ -3,7 +3,7 @@ ghost use Prim.Native.Nat.{_+_, _*_, _≤_};
 ghost use mathlib.Core.Path.{_≡_};
 ghost use lib.ListN.{length};
 ghost use Rattle.netfile.specs.Files.{place-record, arc-record, term-record, four-bytes, records};
-use crate::table::Table;
+use netlayout::Table;
 use nets::Term;
 
 // A place: its start mark, and the outputs that it raises.

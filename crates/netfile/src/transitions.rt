@@ -4,7 +4,7 @@ ghost use Rattle.netfile.specs.Rules.{transition-broken, transitions-broken, n
 ghost use Rattle.bitset.specs.Lists.{first-of};
 ghost use Rattle.nets.specs.Stored.{net-of, transition-of};
 ghost use Rattle.std.specs.Results.{errPart};
-use crate::refusal::Refusal;
+use netlayout::Refusal;
 use nets::Net;
 use nets::Transition;
 

@@ -34,5 +34,5 @@ returns c =
     let tells : Tells (c .in-Continue-counts .counts) file
     = record { places = k .granted .0; transitions = k .granted .1; lines = k .granted .2; outputs = k .granted .3 } in
     let all = finished file (c .in-Continue-counts .counts) tells (sym (t .refused)) (sym (k .refused))
-    _ _ _ (t .granted .1) (t .granted .2) (t .granted .3) (c .filled .result) (c .filled .ensures .refused) (c .filled .ensures .granted) in
+    _ _ _ (t .granted .0) (t .granted .1) (t .granted .2) (c .filled .result) (c .filled .ensures .refused) (c .filled .ensures .granted) in
     record { refused = all .refused; accepted = all .accepted; granted = all .granted; said = all .said; lawful = all .lawful }

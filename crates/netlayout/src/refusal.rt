@@ -1,7 +1,7 @@
 // Why a net file is refused.
 ghost use mathlib.Core.Path.{_≡_};
-ghost use Rattle.netfile.specs.Codes.{code-of, quantity-number};
-ghost use Rattle.netfile.specs.declared.refusal.Refusal.the-variants.{Count};
+ghost use Rattle.netlayout.specs.Codes.{code-of, quantity-number};
+ghost use Rattle.netlayout.specs.declared.refusal.Refusal.the-variants.{Count};
 use crate::table::Table;
 use nets::Quantity;
 

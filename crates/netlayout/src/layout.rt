@@ -1,12 +1,11 @@
 // Where the tables of a net file lie.
-ghost use Prim.Native.Nat.{_+_, _*_, _≤_};
+ghost use Prim.Native.Nat.{_<_, _≤_};
 ghost use mathlib.Core.List.{_++_};
 ghost use mathlib.Core.Path.{_≡_};
-ghost use lib.ListN.{length};
 ghost use Rattle.bitset.specs.Lists.{first-of};
-ghost use Rattle.netfile.specs.declared.table.Table.the-variants.{Places, Arcs, Terms};
-ghost use Rattle.netfile.specs.Files.{two-bytes, table-in, table-end, earliest as earliest-start, places-said, transitions-said, lines-said, outputs-said};
-ghost use Rattle.netfile.specs.Rules.{size-broken, pair-broken, pairs-broken, counts-broken};
+ghost use Rattle.netlayout.specs.declared.table.Table.the-variants.{Places, Arcs, Terms};
+ghost use Rattle.netlayout.specs.Layouts.{byte, two-bytes, table-in, table-end, earliest as earliest-start, places-said, transitions-said, lines-said, outputs-said};
+ghost use Rattle.netlayout.specs.Rules.{size-broken, pair-broken, pairs-broken, counts-broken};
 ghost use Rattle.std.specs.Results.{errPart};
 ghost use Rattle.std.specs.Vec.{made};
 use crate::refusal::PairFault;
@@ -30,23 +29,33 @@ struct Part<'a> {
 
 // The bytes of the three tables.
 #[derive(Clone, Copy)]
-pub(crate) struct Tables<'a> {
+pub struct Tables<'a> {
     pub places: &'a [u8],
     pub arcs: &'a [u8],
     pub terms: &'a [u8],
 }
 
+// Byte `at` of the file, and 0 past its end.
+fn byte_at(file: &[u8], at: usize) -> usize
+    ensures { λ r. ⌜ r ≡ byte (now (file .entry)) at ⌝ ∗ ⌜ r < 256 ⌝ }
+{
+    match file.get(at) {
+        Some(value) => *value as usize,
+        None => 0,
+    }
+}
+
 // The number in the two bytes from `at`, the higher byte first.
 fn half_at(file: &[u8], at: usize) -> usize
-    requires { ⌜ at + 2 ≤ length (now file) ⌝ }
-    ensures { λ r. ⌜ r ≡ two-bytes (now (file .entry)) at ⌝ }
+    requires { ⌜ at ≤ 14 ⌝ }
+    ensures { λ r. ⌜ r ≡ two-bytes (now (file .entry)) at ⌝ ∗ ⌜ r < 65536 ⌝ }
 {
-    file[at] as usize * 256 + file[at + 1] as usize
+    byte_at(file, at) * 256 + byte_at(file, at + 1)
 }
 
 // The part of the file that the pair of `table` tells, if it does not start before `earliest`.
 fn table_part<'a>(file: &'a [u8], table: Table, earliest: usize) -> Result<Part<'a>, Refusal>
-    requires { ⌜ 16 ≤ length (now file) ⌝ ∗ ⌜ earliest ≡ earliest-start (now file) table ⌝ }
+    requires { ⌜ earliest ≡ earliest-start (now file) table ⌝ }
     ensures refused { λ r. ⌜ errPart r ≡ first-of (pair-broken (now (file .entry)) table) ⌝ }
     ensures granted { λ r. ⌜ made r (λ p. (now (p .bytes) ≡ table-in (now (file .entry)) table) × (p .end ≡ table-end (now (file .entry)) table)) ⌝ }
 {
@@ -67,9 +76,9 @@ fn table_part<'a>(file: &'a [u8], table: Table, earliest: usize) -> Result<Part<
 }
 
 // The three tables, or what is wrong with the file's size or with the first pair that is wrong.
-pub(crate) fn tables_in(file: &[u8]) -> Result<Tables<'_>, Refusal>
+pub fn tables_in(file: &[u8]) -> Result<Tables<'_>, Refusal>
     ensures refused { λ r. ⌜ errPart r ≡ first-of (size-broken (now (file .entry)) ++ pairs-broken (now (file .entry))) ⌝ }
-    ensures granted { λ r. ⌜ made r (λ t. (16 ≤ length (now (file .entry))) × (now (t .places) ≡ table-in (now (file .entry)) Places) × (now (t .arcs) ≡ table-in (now (file .entry)) Arcs) × (now (t .terms) ≡ table-in (now (file .entry)) Terms)) ⌝ }
+    ensures granted { λ r. ⌜ made r (λ t. (now (t .places) ≡ table-in (now (file .entry)) Places) × (now (t .arcs) ≡ table-in (now (file .entry)) Arcs) × (now (t .terms) ≡ table-in (now (file .entry)) Terms)) ⌝ }
 {
     if file.len() < SHORTEST || file.len() > LONGEST {
         return Err(Refusal::FileSize);
@@ -85,16 +94,15 @@ pub(crate) fn tables_in(file: &[u8]) -> Result<Tables<'_>, Refusal>
 }
 
 // The counts in the file's first bytes, or the first that is out of range, or that the places table is of another length.
-pub(crate) fn counts_in(file: &[u8]) -> Result<Counts, Refusal>
-    requires { ⌜ 16 ≤ length (now file) ⌝ }
+pub fn counts_in(file: &[u8]) -> Result<Counts, Refusal>
     ensures refused { λ r. ⌜ errPart r ≡ first-of (counts-broken (now (file .entry))) ⌝ }
     ensures granted { λ r. ⌜ made r (λ c. (c .places ≡ places-said (now (file .entry))) × (c .transitions ≡ transitions-said (now (file .entry))) × (c .lines ≡ lines-said (now (file .entry))) × (c .outputs ≡ outputs-said (now (file .entry)))) ⌝ }
 {
     let counts = Counts::new(
-        file[0] as usize,
-        file[1] as usize,
-        file[2] as usize,
-        file[3] as usize,
+        byte_at(file, 0),
+        byte_at(file, 1),
+        byte_at(file, 2),
+        byte_at(file, 3),
     )?;
     let length = half_at(file, Table::Places.pair_place() + 2);
     if length != 5 * counts.places {

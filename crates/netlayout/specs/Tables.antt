@@ -1,7 +1,7 @@
 -- The three tables of a net file.
 use Prim.Native.Nat.{ℕ}
-use Rattle.netfile.specs.declared.table.Table.{Table}
-use Rattle.netfile.specs.declared.table.Table.the-variants.{Places, Arcs, Terms}
+use Rattle.netlayout.specs.declared.table.Table.{Table}
+use Rattle.netlayout.specs.declared.table.Table.the-variants.{Places, Arcs, Terms}
 
 -- the number of a table, and of its pair
 abbrev pub table-number : Table → ℕ

@@ -1,6 +1,6 @@
 // The three tables of a net file.
 ghost use mathlib.Core.Path.{_≡_};
-ghost use Rattle.netfile.specs.Tables.{table-number, record-size, pair-place};
+ghost use Rattle.netlayout.specs.Tables.{table-number, record-size, pair-place};
 
 #[derive(Clone, Copy)]
 pub enum Table {

@@ -2,10 +2,10 @@
 use Prim.Native.Nat.{ℕ}
 use Rattle.nets.specs.declared.quantity.Quantity.{Quantity}
 use Rattle.nets.specs.declared.quantity.Quantity.the-variants.{Places, Transitions, Lines, Outputs}
-use Rattle.netfile.specs.declared.refusal.Refusal.{Refusal}
-use Rattle.netfile.specs.declared.refusal.Refusal.the-variants.{FileSize, Pair, Count, PlacesLength, Record, RepeatedArc, LineInBothWords, FifthTerm, MovesNothing, NoTerm, NoStartPlace}
-use Rattle.netfile.specs.declared.refusal.RefusalCode.{RefusalCode}
-use Rattle.netfile.specs.Tables.{table-number}
+use Rattle.netlayout.specs.declared.refusal.Refusal.{Refusal}
+use Rattle.netlayout.specs.declared.refusal.Refusal.the-variants.{FileSize, Pair, Count, PlacesLength, Record, RepeatedArc, LineInBothWords, FifthTerm, MovesNothing, NoTerm, NoStartPlace}
+use Rattle.netlayout.specs.declared.refusal.RefusalCode.{RefusalCode}
+use Rattle.netlayout.specs.Tables.{table-number}
 
 -- number, table, index and second
 abbrev pub four : ℕ → ℕ → ℕ → ℕ → RefusalCode

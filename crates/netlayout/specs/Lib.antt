@@ -1,0 +1,4 @@
+pub mod Tables
+pub mod Codes
+pub mod Layouts
+pub mod Rules
