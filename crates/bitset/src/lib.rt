@@ -1,4 +1,6 @@
 // Words as sets of numbers, and the set of places.
+ghost use mathlib.Core.Bool.{true};
+ghost use mathlib.Core.Path.{_≡_};
 ghost use Rattle.bitset.specs.Laws.{Set-laws};
 
 mod bits;
@@ -10,7 +12,8 @@ pub use place_set::PlaceSetPartialEq;
 
 // The laws of words as sets, over every width; the contract is the theorem.
 pub fn set_laws_hold() -> bool
-    ensures { λ _. ⌜ Set-laws ⌝ }
+    ensures laws { λ _. ⌜ Set-laws ⌝ }
+    ensures answer { λ r. ⌜ r ≡ true ⌝ }
 {
     true
 }

@@ -1,4 +1,4 @@
--- The layout of a net file, and the net that its bytes say.
+-- The records of a net file, and the net that its bytes say.
 use mathlib.Core.Bool.{Bool, cond, _&&_}
 use mathlib.Core.List.{List, [], _∷_, _++_, map}
 use Prim.Native.Nat.{ℕ, zero, suc, _+_, _*_, _/_}

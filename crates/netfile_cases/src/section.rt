@@ -34,14 +34,21 @@ impl Section {
     pub fn edit(&mut self, heap: Global, line: &str) -> Option<()> {
         let (word, rest) = first_word(line);
         match word {
-            "add" => self.add_line(rest),
-            "at" | "mark" => self.put(heap, 0, rest),
-            "raise" => self.put(heap, 1, rest),
-            "many" => self.resize(rest),
-            "gap" => self.set_gap(rest),
-            "pair" => self.set_pair(rest),
-            _ => None,
+            "add" => self.add_line(rest)?,
+            "at" | "mark" => self.put(heap, 0, rest)?,
+            "raise" => self.put(heap, 1, rest)?,
+            "gap" => self.gap = rest.parse::<usize>().ok()?,
+            "many" => {
+                let size = rest.parse::<usize>().ok()?.saturating_mul(self.size);
+                self.records.resize(size, 0).ok()?;
+            }
+            "pair" => {
+                let (offset, length) = first_word(rest);
+                self.pair = Some((offset.parse::<u16>().ok()?, length.parse::<u16>().ok()?));
+            }
+            _ => return None,
         }
+        Some(())
     }
 
     // Adds a record.
@@ -68,26 +75,6 @@ impl Section {
         let mut bytes = Vec::new(heap);
         push_bytes(&mut bytes, rest)?;
         overwrite(&mut self.records, at, bytes.as_slice())
-    }
-
-    // Gives the table so many records: it loses the last ones, or gains some whose bytes are 0.
-    fn resize(&mut self, line: &str) -> Option<()> {
-        let records = line.parse::<usize>().ok()?;
-        let size = records.saturating_mul(self.size);
-        self.records.resize(size, 0).ok()
-    }
-
-    // Leaves so many bytes before the table.
-    fn set_gap(&mut self, line: &str) -> Option<()> {
-        self.gap = line.parse::<usize>().ok()?;
-        Some(())
-    }
-
-    // Has the header say this offset and this length, whatever the file has.
-    fn set_pair(&mut self, line: &str) -> Option<()> {
-        let (offset, length) = first_word(line);
-        self.pair = Some((offset.parse::<u16>().ok()?, length.parse::<u16>().ok()?));
-        Some(())
     }
 
     // The offset and the length that the header says of the table.

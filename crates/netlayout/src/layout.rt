@@ -75,14 +75,11 @@ fn table_part<'a>(file: &'a [u8], table: Table, earliest: usize) -> Result<Part<
     Ok(Part { bytes, end })
 }
 
-// The three tables, or what is wrong with the file's size or with the first pair that is wrong.
-pub fn tables_in(file: &[u8]) -> Result<Tables<'_>, Refusal>
-    ensures refused { λ r. ⌜ errPart r ≡ first-of (size-broken (now (file .entry)) ++ pairs-broken (now (file .entry))) ⌝ }
+// The three tables, or what is wrong with the first pair that is wrong.
+fn paired_tables(file: &[u8]) -> Result<Tables<'_>, Refusal>
+    ensures refused { λ r. ⌜ errPart r ≡ first-of (pairs-broken (now (file .entry))) ⌝ }
     ensures granted { λ r. ⌜ made r (λ t. (now (t .places) ≡ table-in (now (file .entry)) Places) × (now (t .arcs) ≡ table-in (now (file .entry)) Arcs) × (now (t .terms) ≡ table-in (now (file .entry)) Terms)) ⌝ }
 {
-    if file.len() < SHORTEST || file.len() > LONGEST {
-        return Err(Refusal::FileSize);
-    }
     let places = table_part(file, Table::Places, SHORTEST)?;
     let arcs = table_part(file, Table::Arcs, places.end)?;
     let terms = table_part(file, Table::Terms, arcs.end)?;
@@ -91,6 +88,17 @@ pub fn tables_in(file: &[u8]) -> Result<Tables<'_>, Refusal>
         arcs: arcs.bytes,
         terms: terms.bytes,
     })
+}
+
+// The three tables, or what is wrong with the file's size or with the first pair that is wrong.
+pub fn tables_in(file: &[u8]) -> Result<Tables<'_>, Refusal>
+    ensures refused { λ r. ⌜ errPart r ≡ first-of (size-broken (now (file .entry)) ++ pairs-broken (now (file .entry))) ⌝ }
+    ensures granted { λ r. ⌜ made r (λ t. (now (t .places) ≡ table-in (now (file .entry)) Places) × (now (t .arcs) ≡ table-in (now (file .entry)) Arcs) × (now (t .terms) ≡ table-in (now (file .entry)) Terms)) ⌝ }
+{
+    if file.len() < SHORTEST || file.len() > LONGEST {
+        return Err(Refusal::FileSize);
+    }
+    paired_tables(file)
 }
 
 // The counts in the file's first bytes, or the first that is out of range, or that the places table is of another length.

@@ -146,6 +146,26 @@ fn write_transition<W: fmt::Write>(
     write_terms(f, transition.terms.as_slice())
 }
 
+// Writes the transitions by number, each after an empty row.
+fn write_transitions<W: fmt::Write>(
+    f: &mut fmt::Formatter<W>,
+    transitions: &[Transition],
+) -> fmt::Result {
+    for (i, transition) in transitions.iter().enumerate() {
+        f.write_str("\n")?;
+        write_transition(f, i, transition)?;
+    }
+    Ok(())
+}
+
+// Writes the places by number, each with the outputs that it raises.
+fn write_places<W: fmt::Write>(f: &mut fmt::Formatter<W>, raises: &[u32]) -> fmt::Result {
+    for (i, word) in raises.iter().enumerate() {
+        write_row(f, Subject::Place(i), "raises", Numbered::outputs(*word))?;
+    }
+    Ok(())
+}
+
 // The counts and the start of a net, then its transitions, then its places.
 #[derive(Clone, Copy)]
 pub struct NetText<'a>(pub &'a Net);
@@ -154,17 +174,15 @@ pub impl fmt::Display for NetText<'_> as NetTextDisplay {
     fn fmt<W: fmt::Write>(&self, f: &mut fmt::Formatter<W>) -> fmt::Result {
         let net = self.0;
         let marked = Numbered::places(net.start());
-        let start = format_args!("with {marked} marked");
         write_row(f, Subject::Net, "has", CountsText(net.counts()))?;
-        write_row(f, Subject::Same, "starts", start)?;
-        for (i, transition) in net.transitions().iter().enumerate() {
-            writeln!(f)?;
-            write_transition(f, i, transition)?;
-        }
-        writeln!(f)?;
-        for (i, word) in net.raises().iter().enumerate() {
-            write_row(f, Subject::Place(i), "raises", Numbered::outputs(*word))?;
-        }
-        Ok(())
+        write_row(
+            f,
+            Subject::Same,
+            "starts",
+            format_args!("with {marked} marked"),
+        )?;
+        write_transitions(f, net.transitions())?;
+        f.write_str("\n")?;
+        write_places(f, net.raises())
     }
 }
