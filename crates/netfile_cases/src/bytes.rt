@@ -1,31 +1,39 @@
-// Bytes as a line writes them.
+// Bytes as the table writes them, in hexadecimal.
 
-// Adds the byte that a decimal number says, or the four bytes of a hexadecimal one after `0x`.
-fn push_word(bytes: &mut Vec<u8>, word: &str) -> Option<()> {
-    let Some(digits) = word.strip_prefix("0x") else {
-        return bytes.push(word.parse::<u8>().ok()?).ok();
-    };
-    let number = u32::from_str_radix(digits, 16).ok()?;
-    bytes.extend_from_slice(&number.to_be_bytes()).ok()
+// The value of a hexadecimal digit.
+fn digit(byte: u8) -> Option<u8> {
+    match byte {
+        b'0'..=b'9' => Some(byte - b'0'),
+        b'a'..=b'f' => Some(byte - b'a' + 10),
+        _ => None,
+    }
 }
 
-// Adds the bytes that the words of a text say.
-pub fn push_bytes(bytes: &mut Vec<u8>, text: &str) -> Option<()> {
+// Adds the bytes that pairs of digits say.
+fn push_pairs(bytes: &mut Vec<u8>, digits: &[u8]) -> Option<()> {
+    for pair in digits.chunks(2) {
+        let [high, low] = pair else {
+            return None;
+        };
+        let byte = digit(*high)? << 4 | digit(*low)?;
+        bytes.push(byte).ok()?;
+    }
+    Some(())
+}
+
+// Adds the bytes of a word, which may be said to stand several times.
+fn push_word(bytes: &mut Vec<u8>, word: &str) -> Option<()> {
+    let (digits, times) = word.split_once('*').unwrap_or((word, "1"));
+    for _ in 0..times.parse::<usize>().ok()? {
+        push_pairs(bytes, digits.as_bytes())?;
+    }
+    Some(())
+}
+
+// Adds the bytes of the words of a text.
+pub fn push_text(bytes: &mut Vec<u8>, text: &str) -> Option<()> {
     for word in text.split_whitespace() {
         push_word(bytes, word)?;
     }
     Some(())
-}
-
-// Writes bytes over those of another row from `at` on.
-pub fn overwrite(old: &mut Vec<u8>, at: usize, new: &[u8]) -> Option<()> {
-    for (i, byte) in new.iter().enumerate() {
-        *old.get_mut(at.saturating_add(i))? = *byte;
-    }
-    Some(())
-}
-
-// The first word of a text, and what follows it.
-pub fn first_word(text: &str) -> (&str, &str) {
-    text.split_once(' ').unwrap_or((text, ""))
 }

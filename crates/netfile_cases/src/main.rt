@@ -1,7 +1,5 @@
 // Tries the reader of net files on the files of a table, and says where it answers otherwise than the table.
 mod bytes;
-mod draft;
-mod section;
 mod trial;
 
 use std::fs;

@@ -1,6 +1,5 @@
 // The trial of the reader, case by case.
-use crate::bytes::first_word;
-use crate::draft::Draft;
+use crate::bytes::push_text;
 use nettext::CodeText;
 use nettext::CodeTextDisplay;
 use nettext::NetText;
@@ -32,18 +31,30 @@ fn print_words(rt: &LibcRuntime, file: &[u8]) -> io::Result<()> {
     }
 }
 
-// The net's file, changed as the lines say.
-fn draft_of(heap: Global, net: &str, lines: &str) -> Option<Draft> {
-    let mut draft = Draft::empty(heap);
-    draft.edit_all(heap, net)?;
-    draft.edit_all(heap, lines)?;
-    Some(draft)
+// The first word of a text, and what follows it.
+fn first_word(text: &str) -> (&str, &str) {
+    text.split_once(' ').unwrap_or((text, ""))
 }
 
-// The net and the answer of the next cases, and how many cases were tried and answered wrongly.
+// Adds the bytes that a text says.
+fn add_text(file: &mut Vec<u8>, text: &str) -> io::Result<()> {
+    match push_text(file, text) {
+        Some(()) => Ok(()),
+        None => Err(io::ErrorKind::InvalidData.into()),
+    }
+}
+
+// Adds the bytes that a line of a case says.
+fn add_line(rt: &LibcRuntime, file: &mut Vec<u8>, line: &str) -> io::Result<()> {
+    match first_word(line) {
+        ("include", name) => add_text(file, fs::read_to_string(rt, name)?.as_str()),
+        _ => add_text(file, line),
+    }
+}
+
+// The answer that the next cases are to get, and how many cases were tried and answered wrongly.
 #[derive(Drop)]
 pub struct Trial {
-    net: String,
     answer: String,
     cases: usize,
     wrong: usize,
@@ -53,7 +64,6 @@ impl Trial {
     // No case yet.
     pub fn new(heap: Global) -> Trial {
         Trial {
-            net: String::new(heap),
             answer: String::new(heap),
             cases: 0,
             wrong: 0,
@@ -76,43 +86,30 @@ impl Trial {
     pub fn take(&mut self, rt: &LibcRuntime, paragraph: &str) -> io::Result<()> {
         let (word, rest) = first_word(paragraph);
         match word {
-            "net" => self.set_net(rt, rest),
-            "answer" => self.set_answer(rt.alloc(), rest),
+            "answer" => {
+                self.answer = String::from_str(rt.alloc(), rest)?;
+                Ok(())
+            }
             "case" => self.try_case(rt, rest),
             "#" | "##" => Ok(()),
             _ => Err(io::ErrorKind::InvalidData.into()),
         }
     }
 
-    // Starts the next cases from the net in the file of this name.
-    fn set_net(&mut self, rt: &LibcRuntime, name: &str) -> io::Result<()> {
-        self.net = fs::read_to_string(rt, name)?;
-        Ok(())
-    }
-
-    // Expects this answer of the next cases.
-    fn set_answer(&mut self, heap: Global, answer: &str) -> io::Result<()> {
-        self.answer = String::from_str(heap, answer)?;
-        Ok(())
-    }
-
-    // Tries a case: its name is the first line, and the others change the file.
+    // Tries the reader on a case: its name is the first line, and the others say the file's bytes.
     fn try_case(&mut self, rt: &LibcRuntime, case: &str) -> io::Result<()> {
         let (name, lines) = case.split_once('\n').unwrap_or((case, ""));
-        let Some(draft) = draft_of(rt.alloc(), self.net.as_str(), lines) else {
-            return Err(io::ErrorKind::InvalidData.into());
-        };
-        self.try_draft(rt, name, &draft)
-    }
-
-    // Tries the reader on the file of a draft.
-    fn try_draft(&mut self, rt: &LibcRuntime, name: &str, draft: &Draft) -> io::Result<()> {
-        let Some(file) = draft.file(rt.alloc()) else {
-            return Err(io::ErrorKind::InvalidData.into());
-        };
+        let mut file = Vec::new(rt.alloc());
+        let mut in_words = false;
+        for line in lines.lines() {
+            match line {
+                "say" => in_words = true,
+                _ => add_line(rt, &mut file, line)?,
+            }
+        }
         let got = answer_to(rt.alloc(), file.as_slice())?;
         self.note(rt, name, got.as_str())?;
-        if draft.in_words() {
+        if in_words {
             return print_words(rt, file.as_slice());
         }
         Ok(())
