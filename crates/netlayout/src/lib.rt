@@ -12,6 +12,5 @@ pub use refusal::PairFault;
 pub use refusal::RecordFault;
 pub use refusal::Refusal;
 pub use refusal::RefusalCode;
-pub use refusal::RefusalCodePartialEq;
 pub use refusal::RefusalFromQuantity;
 pub use table::Table;

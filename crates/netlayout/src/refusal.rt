@@ -45,7 +45,7 @@ pub enum Refusal {
 }
 
 // A refusal by its four numbers.
-#[derive(Clone, Copy, PartialEq, Eq)]
+#[derive(Clone, Copy)]
 pub struct RefusalCode {
     pub number: usize,
     pub table: usize,
