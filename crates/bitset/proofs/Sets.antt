@@ -268,3 +268,24 @@ first-member w p (suc k) h e least = ⊎-elim
 
     last : first-of (members w (suc p)) ≡ Some p
     last = rw (e, no-members w p least) refl
+
+-- nothing is in w below k, where the list of its members below k is empty
+none-below : (w k : ℕ) → members w k ≡ [] → (q : ℕ) → q < k → has w q ≡ false
+none-below w k e q h =
+    let c : tell (ltb q k && has w q) ≡ 0 = sym (count-members q w k) ∙ ap (count q) e in
+    let l = lt-ltb q k h in
+    grind arith
+
+-- what comes first of the members is in w, and nothing below it is
+pub first-lowest : (w k p : ℕ) → first-of (members w k) ≡ Some p → (has w p ≡ true) × ((q : ℕ) → q < p → has w q ≡ false)
+first-lowest w zero p e = let z : _≡_ {A = ℕ} 0 1 = cc in absurd (omega arith)
+first-lowest w (suc k) p e = go (has w k) refl (members w k) refl (first-lowest w k p) e
+  where
+    go : (b : Bool) → has w k ≡ b → (l : List ℕ) → members w k ≡ l
+        → (first-of (members w k) ≡ Some p → (has w p ≡ true) × ((q : ℕ) → q < p → has w q ≡ false))
+        → first-of (cond b (l ++ k ∷ []) l) ≡ Some p → (has w p ≡ true) × ((q : ℕ) → q < p → has w q ≡ false)
+    go true h [] m ih f =
+        let s : k ≡ p = cc in
+        subst (λ (x : ℕ). (has w x ≡ true) × ((q : ℕ) → q < x → has w q ≡ false)) s (h, none-below w k m)
+    go true h (x ∷ l) m ih f = ih (ap first-of m ∙ f)
+    go false h l m ih f = ih (ap first-of m ∙ f)

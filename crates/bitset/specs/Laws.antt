@@ -6,6 +6,8 @@ use lib.Bits.{bitAnd, bitOr}
 use lib.Count.{ones}
 use lib.Dec.{eqb, ltb}
 use lib.ListN.{length}
+use Rattle.std.specs.declared.option.Option.the-variants.{Some}
+use Rattle.bitset.specs.Lists.{first-of}
 use Rattle.bitset.specs.Sets.{has, within, apart, without, only, below, members, tell, count}
 
 -- what each operation has as members, when two words are one, and what the tests and the list of members say
@@ -22,4 +24,5 @@ pub record Set-laws : Type 0 where
   pub apart-members : (a w : ℕ) → apart a w ≡ true → (n : ℕ) → has a n ≡ true → has w n ≡ false
   pub members-apart : (a w : ℕ) → ((n : ℕ) → has a n ≡ true → has w n ≡ false) → apart a w ≡ true
   pub each-once : (x w k : ℕ) → count x (members w k) ≡ tell (ltb x k && has w x)
+  pub lowest-first : (w k p : ℕ) → first-of (members w k) ≡ Some p → (has w p ≡ true) × ((q : ℕ) → q < p → has w q ≡ false)
   pub counted : (k w : ℕ) → w < 2 ^ k → ones w ≡ length (members w k)

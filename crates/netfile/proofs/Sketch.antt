@@ -12,7 +12,7 @@ use Rattle.std.proofs.shelf.Counted.{length-map-counting}
 use Rattle.std.proofs.shelf.Tests.{lt-ltb, le-ltb, eq-eqb, ne-eqb, and-from, and-left, and-right, cond-true, cond-false}
 use Rattle.std.proofs.shelf.Ways.{tells}
 use Rattle.bitset.specs.Places.{with-place}
-use Rattle.bitset.specs.Sets.{has, only}
+use Rattle.bitset.specs.Sets.{only}
 use Rattle.std.specs.declared.option.Option.the-variants.{Some}
 use Rattle.nets.specs.Kinds.{kind-number, kind-numbered}
 use Rattle.nets.specs.Nets.{Net, Transition, unconnected, at}

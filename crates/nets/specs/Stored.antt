@@ -6,7 +6,6 @@ use lib.Bits.{bitOr}
 use lib.Dec.{ltb}
 use lib.ListN.{length, take, set, replicate}
 use Rattle.bitset.specs.Places.{places-in, with-place}
-use Rattle.bitset.specs.Sets.{has}
 use Rattle.nets.specs.declared.arc_kind.ArcKind.{ArcKind}
 use Rattle.nets.specs.declared.arc_kind.ArcKind.the-variants.{Consumes, Produces, Tests, Inhibits}
 use Rattle.nets.specs.declared.counts.Counts.{Counts}

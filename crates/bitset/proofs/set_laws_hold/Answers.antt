@@ -1,4 +1,4 @@
-use Rattle.bitset.proofs.Sets.{has-none, has-only, has-below, has-and, has-or, has-without, same-word, within-each, within-from, apart-each, apart-from, count-members, ones-members}
+use Rattle.bitset.proofs.Sets.{has-none, has-only, has-below, has-and, has-or, has-without, same-word, within-each, within-from, apart-each, apart-from, count-members, first-lowest, ones-members}
 use mathlib.Core.Path.{refl}
 use Rattle.bitset.specs.Laws.{Set-laws}
 use Rattle.bitset.proofs.set_laws_hold.Needs as need
@@ -21,5 +21,6 @@ returns c = record { laws = laws; answer = refl }
           apart-members = apart-each;
           members-apart = apart-from;
           each-once = count-members;
+          lowest-first = first-lowest;
           counted = ones-members;
         }
