@@ -289,3 +289,18 @@ first-lowest w (suc k) p e = go (has w k) refl (members w k) refl (first-lowest 
         subst (λ (x : ℕ). (has w x ≡ true) × ((q : ℕ) → q < x → has w q ≡ false)) s (h, none-below w k m)
     go true h (x ∷ l) m ih f = ih (ap first-of m ∙ f)
     go false h l m ih f = ih (ap first-of m ∙ f)
+
+-- WORDS CUT TO A SET
+
+pub common-cut : (a b w : ℕ) → within a b ≡ true → bitAnd a (bitAnd w b) ≡ bitAnd a w
+common-cut a b w e = same-word (bitAnd a (bitAnd w b)) (bitAnd a w) (λ n.
+    has-and a (bitAnd w b) n ∙ (let s = has-and w b n in let t = has-and a w n in let p = within-each a b e n in grind arith))
+
+-- where a lies in b, no member of w outside b counts
+pub within-cut : (a b w : ℕ) → within a b ≡ true → within a (bitAnd w b) ≡ within a w
+unfolding within
+within-cut a b w e = ap (λ (x : ℕ). eqb x a) (common-cut a b w e)
+
+pub apart-cut : (a b w : ℕ) → within a b ≡ true → apart a (bitAnd w b) ≡ apart a w
+unfolding apart
+apart-cut a b w e = ap (λ (x : ℕ). eqb x 0) (common-cut a b w e)

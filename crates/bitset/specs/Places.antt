@@ -13,6 +13,10 @@ use Rattle.bitset.specs.Sets.{only, members}
 abbrev pub places-in : PlaceSet → ℕ
 places-in s = s .word
 
+-- the set of the places of a word
+abbrev pub set-of : ℕ → PlaceSet
+set-of w = record { word = w }
+
 -- how many places a set has room for
 abbrev pub room : ℕ
 room = 64

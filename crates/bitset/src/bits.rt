@@ -1,7 +1,11 @@
 // Words of 64 bits as sets of numbers: what all sets of the code are made of.
+ghost use Prim.Native.Nat.{min};
+ghost use mathlib.Core.Bool.{not};
 ghost use mathlib.Core.Path.{_≡_};
+ghost use lib.Dec.{eqb};
 ghost use Rattle.bitset.specs.Places.{with-place, lowest-in, how-many};
-ghost use Rattle.bitset.specs.Sets.{has as has-member, within as is-within, apart as is-apart, without as taken-away};
+ghost use Rattle.bitset.specs.Sets.{has as has-member, within as is-within, apart as is-apart, without as taken-away, below as all-below};
+ghost use Rattle.std.specs.Options.{isSome};
 
 // Whether number `n` is in `word`; none above 63 is.
 pub(crate) fn has(word: u64, n: usize) -> bool
@@ -31,6 +35,17 @@ pub(crate) fn with(word: u64, n: usize) -> u64
     if n < 64 { word | 1 << n } else { word }
 }
 
+// The set of all numbers below `count`, of which a word has room for 64.
+pub(crate) fn below(count: usize) -> u64
+    ensures { λ r. ⌜ r ≡ all-below (min count 64) ⌝ }
+{
+    if count < 64 {
+        (1 << count) - 1
+    } else {
+        u64::MAX
+    }
+}
+
 // The numbers of `word` that are not in `other`.
 pub(crate) fn without(word: u64, other: u64) -> u64
     ensures { λ r. ⌜ r ≡ taken-away word other ⌝ }
@@ -40,7 +55,8 @@ pub(crate) fn without(word: u64, other: u64) -> u64
 
 // The lowest number in `word`.
 pub(crate) fn lowest(word: u64) -> Option<usize>
-    ensures { λ r. ⌜ r ≡ lowest-in word ⌝ }
+    ensures lowest { λ r. ⌜ r ≡ lowest-in word ⌝ }
+    ensures found { λ r. ⌜ isSome r ≡ not (eqb word 0) ⌝ }
 {
     if word == 0 {
         return None;

@@ -5,10 +5,12 @@ ghost use Rattle.bitset.specs.Laws.{Set-laws};
 
 mod bits;
 mod place_set;
+mod transition_set;
 pub mod words;
 
 pub use place_set::PlaceSet;
 pub use place_set::PlaceSetPartialEq;
+pub use transition_set::TransitionSet;
 
 // The laws of words as sets, over every width; the contract is the theorem.
 pub fn set_laws_hold() -> bool

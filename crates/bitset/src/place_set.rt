@@ -1,10 +1,12 @@
 // A set of places: the one type by which all code holds places, so that its width is decided here.
+ghost use Prim.Native.Nat.{min};
 ghost use mathlib.Core.Bool.{not};
 ghost use mathlib.Core.Path.{_≡_};
 ghost use lib.Bits.{bitAnd, bitOr};
 ghost use lib.Dec.{eqb};
-ghost use Rattle.bitset.specs.Places.{places-in, with-place, lowest-in, how-many};
-ghost use Rattle.bitset.specs.Sets.{has as has-member, within, apart, without as taken-away};
+ghost use Rattle.bitset.specs.Places.{places-in, room, with-place, lowest-in, how-many};
+ghost use Rattle.bitset.specs.Sets.{has as has-member, within, apart, without as taken-away, below as all-below};
+ghost use Rattle.std.specs.Options.{isSome};
 use crate::bits;
 
 #[derive(Clone, Copy, PartialEq, Eq)]
@@ -37,6 +39,14 @@ impl PlaceSet {
     {
         let PlaceSet { word } = self;
         word
+    }
+
+    // All places below `count`, of which a set has room for 64.
+    pub fn below(count: usize) -> PlaceSet
+        ensures { λ r. ⌜ places-in r ≡ all-below (min count room) ⌝ }
+    {
+        let word = bits::below(count);
+        PlaceSet { word }
     }
 
     // Whether `place` is in the set.
@@ -99,9 +109,10 @@ impl PlaceSet {
         PlaceSet { word }
     }
 
-    // The lowest place of the set.
+    // The lowest place of the set, which has one unless it is empty.
     pub fn lowest(self) -> Option<usize>
-        ensures { λ r. ⌜ r ≡ lowest-in (places-in self) ⌝ }
+        ensures lowest { λ r. ⌜ r ≡ lowest-in (places-in self) ⌝ }
+        ensures found { λ r. ⌜ isSome r ≡ not (eqb (places-in self) 0) ⌝ }
     {
         bits::lowest(self.word)
     }

@@ -1,6 +1,5 @@
 pub mod Lists
 pub mod Turns
-pub mod Items
 pub mod Counted
 pub mod Kept
 pub mod Joined

@@ -3,3 +3,7 @@ pub mod Kinds
 pub mod Nets
 pub mod Stored
 pub mod WellFormed
+pub mod Codes
+pub mod Firing
+pub mod Rounds
+pub mod Clashes

@@ -9,7 +9,7 @@ use Rattle.nets.specs.Nets.{at}
 use Rattle.bitset.specs.Lists.{first-of}
 use Rattle.nets.specs.Stored.{net-of}
 use Rattle.netfile.specs.Rules.{each-below, transition-broken}
-use Rattle.netfile.proofs.Items.{item-at, as-long}
+use Rattle.nets.proofs.Items.{item-at, as-long}
 use Rattle.netfile.proofs.Lists.{none-more, first-at}
 use Rattle.netfile.proofs.transitions.check_transitions.Needs as need
 

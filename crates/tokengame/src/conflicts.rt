@@ -1,0 +1,17 @@
+// Which transitions stand in each other's way.
+ghost use mathlib.Core.Path.{_≡_};
+ghost use Rattle.nets.specs.Firing.{conflict as conflicting};
+ghost use Rattle.nets.specs.Stored.{transition-of};
+use nets::Transition;
+
+// Whether two transitions conflict.
+pub fn conflict(one: &Transition, other: &Transition) -> bool
+    ensures { λ r. ⌜ r ≡ conflicting (transition-of (now (one .entry))) (transition-of (now (other .entry))) ⌝ }
+{
+    one.consumes.meets(other.consumes)
+        || one.produces.meets(other.produces)
+        || one.consumes.meets(other.tests)
+        || one.tests.meets(other.consumes)
+        || one.produces.meets(other.inhibits)
+        || one.inhibits.meets(other.produces)
+}
