@@ -1,6 +1,7 @@
 // What the arguments ask for.
 use crate::failure::Failure;
 use crate::failure::FailureFromAlloc;
+use netfile::Strictness;
 use std::alloc::Global;
 use std::env::Args;
 
@@ -11,9 +12,11 @@ const DEFAULT_FILE: &str = "net.sip";
 pub const HELP: &str = "\
 netcheck - check a net file, and say what is in it
 
-usage: netcheck [FILE]
+usage: netcheck [--strict] [FILE]
 
   FILE        the net file; net.sip in this folder where none is named
+  --strict    refuse a net with a clash: two conflicting transitions that can
+              both fire at some marking under some line word
   -h, --help  print this text
 
 A missing file counts as empty. The status is 0 where the file is accepted,
@@ -24,23 +27,27 @@ and 1 where it is refused or cannot be read.
 #[derive(Drop)]
 pub enum Command {
     Help,
-    Check(String),
+    Check { name: String, strictness: Strictness },
 }
 
 impl Command {
     // The command that the arguments say; the first of them is the program's own name.
-    pub fn from_args(heap: Global, mut args: Args) -> Result<Command, Failure> {
-        let _ = args.next();
-        let Some(first) = args.next() else {
-            return Ok(Command::Check(String::from_str(heap, DEFAULT_FILE)?));
+    pub fn from_args(heap: Global, args: Args) -> Result<Command, Failure> {
+        let mut name = None;
+        let mut strictness = Strictness::Plain;
+        for argument in args.skip(1) {
+            match argument.as_str() {
+                "-h" | "--help" => return Ok(Command::Help),
+                "--strict" => strictness = Strictness::Strict,
+                option if option.starts_with('-') => return Err(Failure::Misuse),
+                _ if name.is_some() => return Err(Failure::Misuse),
+                _ => name = Some(argument),
+            }
+        }
+        let name = match name {
+            Some(name) => name,
+            None => String::from_str(heap, DEFAULT_FILE)?,
         };
-        if args.next().is_some() {
-            return Err(Failure::Misuse);
-        }
-        match first.as_str() {
-            "-h" | "--help" => Ok(Command::Help),
-            option if option.starts_with('-') => Err(Failure::Misuse),
-            _ => Ok(Command::Check(first)),
-        }
+        Ok(Command::Check { name, strictness })
     }
 }

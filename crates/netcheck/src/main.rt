@@ -7,6 +7,7 @@ use command::HELP;
 use failure::Failure;
 use failure::FailureFromAlloc;
 use failure::FailureFromIo;
+use netfile::Strictness;
 use netlayout::Refusal;
 use nets::Net;
 use nettext::CodeText;
@@ -50,9 +51,9 @@ fn refuse(rt: &LibcRuntime, name: &str, bytes: usize, refusal: Refusal) -> io::R
 }
 
 // Checks the file of this name, and prints what was found.
-fn check(rt: &LibcRuntime, name: &str) -> Result<(), Failure> {
+fn check(rt: &LibcRuntime, name: &str, strictness: Strictness) -> Result<(), Failure> {
     let file = contents(rt, name)?;
-    match netfile::read(file.as_slice()) {
+    match netfile::check(file.as_slice(), strictness) {
         Ok(net) => Ok(accept(rt, name, file.len(), &net)?),
         Err(refusal) => {
             refuse(rt, name, file.len(), refusal)?;
@@ -65,7 +66,7 @@ fn check(rt: &LibcRuntime, name: &str) -> Result<(), Failure> {
 fn run(rt: &LibcRuntime) -> Result<(), Failure> {
     match Command::from_args(rt.alloc(), env::args(rt)?)? {
         Command::Help => Ok(rt.print(HELP)?),
-        Command::Check(name) => check(rt, name.as_str()),
+        Command::Check { name, strictness } => check(rt, name.as_str(), strictness),
     }
 }
 

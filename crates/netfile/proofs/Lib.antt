@@ -1,4 +1,5 @@
 pub mod Lists
+pub mod Strict
 pub mod Turns
 pub mod Counted
 pub mod Kept

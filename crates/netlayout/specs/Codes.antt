@@ -1,15 +1,12 @@
 -- The four numbers of each refusal.
 use Prim.Native.Nat.{ℕ}
+use Rattle.nets.specs.Codes.{four}
 use Rattle.nets.specs.declared.quantity.Quantity.{Quantity}
 use Rattle.nets.specs.declared.quantity.Quantity.the-variants.{Places, Transitions, Lines, Outputs}
+use Rattle.nets.specs.declared.refusal_code.RefusalCode.{RefusalCode}
 use Rattle.netlayout.specs.declared.refusal.Refusal.{Refusal}
-use Rattle.netlayout.specs.declared.refusal.Refusal.the-variants.{FileSize, Pair, Count, PlacesLength, Record, RepeatedArc, LineInBothWords, FifthTerm, MovesNothing, NoTerm, NoStartPlace}
-use Rattle.netlayout.specs.declared.refusal.RefusalCode.{RefusalCode}
+use Rattle.netlayout.specs.declared.refusal.Refusal.the-variants.{FileSize, Pair, Count, PlacesLength, Record, RepeatedArc, LineInBothWords, FifthTerm, MovesNothing, NoTerm, NoStartPlace, Clash}
 use Rattle.netlayout.specs.Tables.{table-number}
-
--- number, table, index and second
-abbrev pub four : ℕ → ℕ → ℕ → ℕ → RefusalCode
-four number table index second = record { number = number; table = table; index = index; second = second }
 
 -- the index of a quantity whose count is out of range
 abbrev pub quantity-number : Quantity → ℕ
@@ -31,3 +28,4 @@ code-of (FifthTerm index) = four 6 3 index 0
 code-of (MovesNothing transition) = four 7 4 transition 0
 code-of (NoTerm transition) = four 8 4 transition 0
 code-of NoStartPlace = four 9 0 0 0
+code-of (Clash clash) = four 10 0 (clash .lower) (clash .higher)

@@ -11,6 +11,5 @@ pub use layout::tables_in;
 pub use refusal::PairFault;
 pub use refusal::RecordFault;
 pub use refusal::Refusal;
-pub use refusal::RefusalCode;
 pub use refusal::RefusalFromQuantity;
 pub use table::Table;

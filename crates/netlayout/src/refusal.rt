@@ -3,7 +3,9 @@ ghost use mathlib.Core.Path.{_≡_};
 ghost use Rattle.netlayout.specs.Codes.{code-of, quantity-number};
 ghost use Rattle.netlayout.specs.declared.refusal.Refusal.the-variants.{Count};
 use crate::table::Table;
+use nets::Clash;
 use nets::Quantity;
+use nets::RefusalCode;
 
 // What is wrong with the pair of offset and length of a table.
 #[derive(Clone, Copy)]
@@ -28,7 +30,7 @@ pub enum RecordFault {
     LowLine,
 }
 
-// The rule that a file breaks; a number is that of the record or of the transition.
+// The rule that a file breaks; a number is that of the record or of the transition. A clash is one for a strict check only.
 #[derive(Clone, Copy)]
 pub enum Refusal {
     FileSize,
@@ -42,15 +44,7 @@ pub enum Refusal {
     MovesNothing(usize),
     NoTerm(usize),
     NoStartPlace,
-}
-
-// A refusal by its four numbers.
-#[derive(Clone, Copy)]
-pub struct RefusalCode {
-    pub number: usize,
-    pub table: usize,
-    pub index: usize,
-    pub second: usize,
+    Clash(Clash),
 }
 
 pub impl From<Quantity> for Refusal as RefusalFromQuantity {
@@ -78,24 +72,25 @@ impl Refusal {
     pub fn code(self) -> RefusalCode
         ensures { λ r. ⌜ r ≡ code-of self ⌝ }
     {
-        let (number, table, index) = match self {
-            Refusal::FileSize => (1, 0, 0),
-            Refusal::Pair(table, _) => (1, 0, table.number()),
-            Refusal::Count(quantity) => (2, 0, number_of(quantity)),
-            Refusal::PlacesLength => (2, 0, 5),
-            Refusal::Record(table, index, _) => (3, table.number(), index),
-            Refusal::RepeatedArc(index) => (4, 2, index),
-            Refusal::LineInBothWords(index) => (5, 3, index),
-            Refusal::FifthTerm(index) => (6, 3, index),
-            Refusal::MovesNothing(transition) => (7, 4, transition),
-            Refusal::NoTerm(transition) => (8, 4, transition),
-            Refusal::NoStartPlace => (9, 0, 0),
+        let (number, table, index, second) = match self {
+            Refusal::FileSize => (1, 0, 0, 0),
+            Refusal::Pair(table, _) => (1, 0, table.number(), 0),
+            Refusal::Count(quantity) => (2, 0, number_of(quantity), 0),
+            Refusal::PlacesLength => (2, 0, 5, 0),
+            Refusal::Record(table, index, _) => (3, table.number(), index, 0),
+            Refusal::RepeatedArc(index) => (4, 2, index, 0),
+            Refusal::LineInBothWords(index) => (5, 3, index, 0),
+            Refusal::FifthTerm(index) => (6, 3, index, 0),
+            Refusal::MovesNothing(transition) => (7, 4, transition, 0),
+            Refusal::NoTerm(transition) => (8, 4, transition, 0),
+            Refusal::NoStartPlace => (9, 0, 0, 0),
+            Refusal::Clash(clash) => (10, 0, clash.lower, clash.higher),
         };
         RefusalCode {
             number,
             table,
             index,
-            second: 0,
+            second,
         }
     }
 }

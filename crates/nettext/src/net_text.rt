@@ -1,4 +1,6 @@
 // What is in a net, in rows of three columns: subject, verb and object.
+use crate::nouns::Being;
+use crate::nouns::BeingDisplay;
 use crate::nouns::Counted;
 use crate::nouns::CountedDisplay;
 use crate::nouns::Noun;
@@ -55,40 +57,6 @@ impl fmt::Display for CountsText as CountsTextDisplay {
     }
 }
 
-// The level of a line.
-#[derive(Clone, Copy)]
-enum Level {
-    High,
-    Low,
-}
-
-impl fmt::Display for Level as LevelDisplay {
-    fn fmt<W: fmt::Write>(&self, f: &mut fmt::Formatter<W>) -> fmt::Result {
-        let word = match self {
-            Level::High => "high",
-            Level::Low => "low",
-        };
-        f.write_str(word)
-    }
-}
-
-// That lines are at a level, as `line 0 is high` or `lines 1 and 4 are low`.
-#[derive(Clone, Copy)]
-struct Levelled {
-    lines: Numbered,
-    level: Level,
-}
-
-impl fmt::Display for Levelled as LevelledDisplay {
-    fn fmt<W: fmt::Write>(&self, f: &mut fmt::Formatter<W>) -> fmt::Result {
-        let Levelled { lines, level } = *self;
-        match lines.count() {
-            1 => write!(f, "{lines} is {level}"),
-            _ => write!(f, "{lines} are {level}"),
-        }
-    }
-}
-
 // When a term holds.
 #[derive(Clone, Copy)]
 struct TermText(Term);
@@ -96,19 +64,13 @@ struct TermText(Term);
 impl fmt::Display for TermText as TermTextDisplay {
     fn fmt<W: fmt::Write>(&self, f: &mut fmt::Formatter<W>) -> fmt::Result {
         let Term { high, low } = self.0;
-        let highs = Levelled {
-            lines: Numbered::lines(high),
-            level: Level::High,
-        };
-        let lows = Levelled {
-            lines: Numbered::lines(low),
-            level: Level::Low,
-        };
+        let highs = Being(Numbered::lines(high));
+        let lows = Being(Numbered::lines(low));
         match (high, low) {
             (0, 0) => write!(f, "always"),
-            (_, 0) => write!(f, "when {highs}"),
-            (0, _) => write!(f, "when {lows}"),
-            (_, _) => write!(f, "when {highs} and {lows}"),
+            (_, 0) => write!(f, "when {highs} high"),
+            (0, _) => write!(f, "when {lows} low"),
+            (_, _) => write!(f, "when {highs} high and {lows} low"),
         }
     }
 }

@@ -114,3 +114,19 @@ pub impl fmt::Display for Numbered as NumberedDisplay {
         Ok(())
     }
 }
+
+// That those of a noun are, as `no place is`, `place 3 is` or `places 0 and 3 are`.
+#[derive(Clone, Copy)]
+pub struct Being(pub Numbered);
+
+pub impl fmt::Display for Being as BeingDisplay {
+    fn fmt<W: fmt::Write>(&self, f: &mut fmt::Formatter<W>) -> fmt::Result {
+        let numbered = self.0;
+        let noun = numbered.noun;
+        match numbered.count() {
+            0 => write!(f, "no {noun} is"),
+            1 => write!(f, "{numbered} is"),
+            _ => write!(f, "{numbered} are"),
+        }
+    }
+}

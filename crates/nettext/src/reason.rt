@@ -3,17 +3,22 @@ ghost use mathlib.Core.List.{_++_};
 ghost use lib.Chars.{codes};
 ghost use Rattle.std.specs.Written.{decimal};
 ghost use Rattle.std.specs.declared.option.Option.the-variants.{Some};
+use crate::nouns::Being;
+use crate::nouns::BeingDisplay;
 use crate::nouns::Counted;
 use crate::nouns::CountedDisplay;
 use crate::nouns::Noun;
+use crate::nouns::Numbered;
 use netlayout::LONGEST;
 use netlayout::PairFault;
 use netlayout::RecordFault;
 use netlayout::Refusal;
-use netlayout::RefusalCode;
+
 use netlayout::SHORTEST;
 use netlayout::Table;
+use nets::Clash;
 use nets::Quantity;
+use nets::RefusalCode;
 use std::fmt;
 
 // The four numbers of a refusal.
@@ -137,6 +142,27 @@ const PLACES_LENGTH: &str = "The places table does not have 5 bytes for each pla
 // That no token is in the net to begin with.
 const NO_START_PLACE: &str = "No place is marked at the start.";
 
+// Two transitions that clash, and where both can fire.
+#[derive(Clone, Copy)]
+struct ClashText(Clash);
+
+impl fmt::Display for ClashText as ClashTextDisplay {
+    fn fmt<W: fmt::Write>(&self, f: &mut fmt::Formatter<W>) -> fmt::Result {
+        let Clash {
+            lower,
+            higher,
+            marking,
+            lines,
+        } = self.0;
+        let marked = Being(Numbered::places(marking));
+        let high = Being(Numbered::lines(lines));
+        write!(
+            f,
+            "Transitions {lower} and {higher} clash: they conflict, and both can fire where {marked} marked and {high} high."
+        )
+    }
+}
+
 // The sentence on a refusal of a file of so many bytes.
 #[derive(Clone, Copy)]
 pub struct Reason {
@@ -166,6 +192,7 @@ pub impl fmt::Display for Reason as ReasonDisplay {
             }
             Refusal::NoTerm(t) => write!(f, "Transition {t} has no term."),
             Refusal::NoStartPlace => f.write_str(NO_START_PLACE),
+            Refusal::Clash(clash) => f.write(ClashText(clash)),
         }
     }
 }

@@ -19,11 +19,10 @@ fn lines_of_both(one: Term, other: Term) -> Option<u32>
 {
     let high = one.high | other.high;
     let low = one.low | other.low;
-    if words::apart(high, low) {
-        Some(high)
-    } else {
-        None
+    if !words::apart(high, low) {
+        return None;
     }
+    Some(high)
 }
 
 // The same for a term and the first of several that goes with it.
