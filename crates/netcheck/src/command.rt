@@ -27,7 +27,10 @@ and 1 where it is refused or cannot be read.
 #[derive(Drop)]
 pub enum Command {
     Help,
-    Check { name: String, strictness: Strictness },
+    Check {
+        name: String,
+        strictness: Strictness,
+    },
 }
 
 impl Command {

@@ -35,10 +35,18 @@ fn contents(rt: &LibcRuntime, name: &str) -> Result<Vec<u8>, Failure> {
     }
 }
 
+// That a file is accepted, in words.
+fn verdict(strictness: Strictness) -> &'static str {
+    match strictness {
+        Strictness::Plain => "accepted",
+        Strictness::Strict => "accepted, and no two transitions clash",
+    }
+}
+
 // Prints the net of an accepted file.
-fn accept(rt: &LibcRuntime, name: &str, bytes: usize, net: &Net) -> io::Result<()> {
+fn accept(rt: &LibcRuntime, name: &str, bytes: usize, word: &str, net: &Net) -> io::Result<()> {
     let size = Counted(bytes, Noun::Byte);
-    println!(rt, "{name}: {size}, accepted\n")?;
+    println!(rt, "{name}: {size}, {word}\n")?;
     rt.print(NetText(net))
 }
 
@@ -54,7 +62,7 @@ fn refuse(rt: &LibcRuntime, name: &str, bytes: usize, refusal: Refusal) -> io::R
 fn check(rt: &LibcRuntime, name: &str, strictness: Strictness) -> Result<(), Failure> {
     let file = contents(rt, name)?;
     match netfile::check(file.as_slice(), strictness) {
-        Ok(net) => Ok(accept(rt, name, file.len(), &net)?),
+        Ok(net) => Ok(accept(rt, name, file.len(), verdict(strictness), &net)?),
         Err(refusal) => {
             refuse(rt, name, file.len(), refusal)?;
             Err(Failure::Refused)

@@ -79,11 +79,14 @@ pub record Clashing (n : Net) (i j m w : ℕ) : Type 0 where
   pub lower-fires : can-fire m w (at n i) ≡ true
   pub higher-fires : can-fire m w (at n j) ≡ true
 
--- the two clash at the marking and the line word told, which are of the net's places and lines; no clash has a lower higher number, and none with this one a lower lower number
+-- a clash is the one to be named
 pub record First (n : Net) (c : Clash) : Type 0 where
+  -- the two clash at the marking and under the line word told
   pub clashing : Clashing n (c .lower) (c .higher) (places-in (c .marking)) (c .lines)
+  -- which have places and lines of the net only
   pub marking-of-the-net : WellFormed n → within (places-in (c .marking)) (below (n .places)) ≡ true
   pub lines-of-the-net : WellFormed n → within (c .lines) (below (n .lines)) ≡ true
+  -- no clash has a lower higher number, and none with this higher number a lower lower one
   pub least-higher : (i j m w : ℕ) → Clashing n i j m w → c .higher ≤ j
   pub least-lower : (i m w : ℕ) → Clashing n i (c .higher) m w → c .lower ≤ i
 

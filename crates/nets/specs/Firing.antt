@@ -1,5 +1,7 @@
 -- When a transition can fire, what firing it does, and which transitions conflict. A marking is the set of the marked places, a line word that of the lines that are high.
-use mathlib.Core.Bool.{Bool, false, not, _&&_, _||_}
+use mathlib.Core.Path.{_≡_}
+use mathlib.Core.Logic.{_↔_}
+use mathlib.Core.Bool.{Bool, true, false, not, _&&_, _||_}
 use mathlib.Core.List.{List, [], _∷_}
 use Prim.Native.Nat.{ℕ}
 use lib.Bits.{bitAnd, bitOr}
@@ -50,3 +52,8 @@ conflict t u =
     meet (t .consumes) (u .consumes) || meet (t .produces) (u .produces)
     || meet (t .consumes) (u .tests) || meet (t .tests) (u .consumes)
     || meet (t .produces) (u .inhibits) || meet (t .inhibits) (u .produces)
+
+-- where both can fire, two transitions conflict unless each can still fire once the other has
+abbrev pub Conflicts-hinder : Type 0
+Conflicts-hinder = (m w : ℕ) (t u : Transition) → can-fire m w t ≡ true → can-fire m w u ≡ true
+    → (conflict t u ≡ false) ↔ ((can-fire (fire m t) w u ≡ true) × (can-fire (fire m u) w t ≡ true))

@@ -39,10 +39,11 @@ abbrev pub union : (ℕ → ℕ) → ℕ → ℕ → ℕ
 union f r zero = 0
 union f r (suc k) = bitOr (cond (has r k) (f k) 0) (union f r k)
 
--- all that the transitions of r consume, and all that they produce
+-- all that the transitions of r below a number consume
 abbrev pub consumed : Net → ℕ → ℕ → ℕ
 consumed n = union (λ t. at n t .consumes)
 
+-- all that they produce
 abbrev pub produced : Net → ℕ → ℕ → ℕ
 produced n = union (λ t. at n t .produces)
 
@@ -70,11 +71,13 @@ abbrev pub Fires : Net → ℕ → ℕ → List ℕ → ℕ → Type 0
 Fires n w m [] m′ = m ≡ m′
 Fires n w m (t ∷ ts) m′ = (can-fire m w (at n t) ≡ true) × Fires n w (fire m (at n t)) ts m′
 
--- a round from marking m under line word w, by what it reports and where it ends: it reports transitions of the net only; fired singly in any order
--- they end where it ends; and what could fire and is not reported conflicts with a reported one of lower number
+-- a round from marking m under line word w, by its report r and its end m′
 pub record Round (n : Net) (w m r m′ : ℕ) : Type 0 where
+  -- it reports transitions of the net only
   pub of-the-net : r < 2 ^ length (n .transitions)
+  -- the reported ones, fired singly in any order from where it begins, can each fire at their turn and end where it ends
   pub any-order : (ts : List ℕ) → Shuffled (members r (length (n .transitions))) ts → Fires n w (begins n m) ts m′
+  -- what could fire as it began and is not reported conflicts with a reported one of lower number
   pub lowest-first : (t : ℕ) → t < length (n .transitions) → can-fire (begins n m) w (at n t) ≡ true → has r t ≡ false
       → (u : ℕ) × (u < t) × (has r u ≡ true) × (conflict (at n u) (at n t) ≡ true)
 

@@ -13,7 +13,6 @@ use netlayout::LONGEST;
 use netlayout::PairFault;
 use netlayout::RecordFault;
 use netlayout::Refusal;
-
 use netlayout::SHORTEST;
 use netlayout::Table;
 use nets::Clash;

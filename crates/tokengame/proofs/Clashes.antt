@@ -1,9 +1,9 @@
 -- The first clash: it is one, it is the first, and none is left out.
 use mathlib.Core.Path.{_≡_, refl, sym, ap, subst, _∙_}
 use mathlib.Core.Logic.{_⊎_, inl, inr, ⊎-elim}
-use mathlib.Core.Bool.{Bool, true, false, cond, _&&_, _||_, false≢true}
+use mathlib.Core.Bool.{Bool, true, false, cond, _&&_, false≢true}
 use mathlib.Core.List.{List, [], _∷_}
-use Prim.Native.Nat.{ℕ, zero, suc, _+_, _≤_, _<_}
+use Prim.Native.Nat.{ℕ, zero, suc, _+_, _<_}
 use native.Mathlib.Numerals.{add-one}
 use native.Mathlib.Omega.{arith}
 use lib.Bits.{bitOr}
@@ -11,7 +11,7 @@ use lib.ListN.{length, getD, drop}
 use Rattle.std.specs.declared.option.Option.{Option}
 use Rattle.std.specs.declared.option.Option.the-variants.{None, Some}
 use Rattle.std.proofs.shelf.Lists.{drop-more}
-use Rattle.std.proofs.shelf.Tests.{and-parts, and-from, or-cases, or-left, or-right, cases-lt, cases-bool}
+use Rattle.std.proofs.shelf.Tests.{and-parts, and-from, or-cases, or-left, or-right, cases-lt}
 use Rattle.bitset.proofs.Lists.{none-some, some-same}
 use Rattle.bitset.specs.Places.{set-of}
 use Rattle.bitset.specs.Sets.{within, apart, below}
@@ -50,7 +50,7 @@ least {X} f (suc k) = go (first-below f k) (least f k)
     go None h = here (f k) refl h
     go (Some x) h = (h .0, omega arith, h .2, h .3)
 
--- a search by number: it ends at the first answer, and else goes on
+-- looked through by number: the first answer ends it, and else it goes on
 pub found-at : {X : Type 0} (f : ℕ → Option X) (i k : ℕ) (x : X) → i < k → first-below f i ≡ None → f i ≡ Some x → first-below f k ≡ Some x
 found-at f i (suc k) x h e g = ⊎-elim
     (λ l. ap (λ o. or-else o (f k)) (found-at f i k x l e g))
@@ -61,7 +61,7 @@ found-at f i zero x h e g = absurd (omega arith)
 pub none-yet : {X : Type 0} (f : ℕ → Option X) (i : ℕ) → first-below f i ≡ None → f i ≡ None → first-below f (i + 1) ≡ None
 none-yet f i e g = rw add-one (ap (λ o. or-else o (f i)) e ∙ g)
 
--- a search through a list, from element i on
+-- a list looked through from element i on
 pub next-over : {X Y : Type 0} (f : X → Option Y) (xs : List X) (i : ℕ) (d : X) (o : Option Y) → i < length xs → o ≡ f (getD xs i d)
     → or-else o (first-over f (drop (i + 1) xs)) ≡ first-over f (drop i xs)
 next-over f xs i d o h e = ap (λ x. or-else x (first-over f (drop (i + 1) xs))) e ∙ sym (ap (first-over f) (drop-more xs i d h))

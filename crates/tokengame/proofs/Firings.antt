@@ -1,12 +1,11 @@
 -- One firing, place by place, and two firings that do not conflict.
-use mathlib.Core.Path.{_≡_, refl, sym, ap, ap₂, subst, _∙_}
+use mathlib.Core.Path.{_≡_, refl, sym, ap, _∙_}
 use mathlib.Core.Logic.{_⊎_, inl, inr, ⊎-elim}
-use mathlib.Core.Bool.{Bool, true, false, not, cond, _&&_, _||_}
-use Prim.Native.Nat.{ℕ, zero, suc, _+_, _≤_, _<_}
+use mathlib.Core.Bool.{Bool, true, false, not, _&&_, _||_}
+use Prim.Native.Nat.{ℕ, _+_}
 use native.Mathlib.Omega.{arith}
-use lib.Bits.{bitAnd, bitOr, and-comm}
-use lib.Dec.{eqb}
-use Rattle.std.proofs.shelf.Tests.{and-parts, and-from, or-parts, or-from, not-true, not-false, not-from-true, not-from-false}
+use lib.Bits.{bitOr}
+use Rattle.std.proofs.shelf.Tests.{and-parts, and-from}
 use Rattle.bitset.specs.Sets.{has, within, apart, without, tell}
 use Rattle.nets.specs.Nets.{Transition}
 use Rattle.nets.specs.Firing.{enabled, can-fire, condition, fire, conflict}
@@ -136,15 +135,3 @@ pub still-fires : (m w : ℕ) (t u : Transition) → can-fire m w u ≡ true →
 still-fires m w t u f c =
     let h = and-parts (enabled m u) (condition w (u .terms)) f in
     and-from (enabled (fire m t) u) (condition w (u .terms)) (still-enabled m t u (h .0) c) (h .1)
-
-pub tell-same : (x y : Bool) → tell x ≡ tell y → x ≡ y
-tell-same x y e = grind arith
-
--- and it does not matter which is first
-pub commute : (m : ℕ) (t u : Transition) → enabled m t ≡ true → enabled m u ≡ true → conflict t u ≡ false → fire (fire m t) u ≡ fire (fire m u) t
-commute m t u e f c = same-word (fire (fire m t) u) (fire (fire m u) t) (λ p.
-    let a = tokens m t p e in
-    let b = tokens m u p f in
-    let d = tokens (fire m t) u p (still-enabled m t u f c) in
-    let g = tokens (fire m u) t p (still-enabled m u t e (conflict-comm u t ∙ c)) in
-    tell-same (has (fire (fire m t) u) p) (has (fire (fire m u) t) p) (omega arith))

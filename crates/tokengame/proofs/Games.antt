@@ -90,6 +90,14 @@ none-hinders m t = ⊎-elim yes-enabled not-so (cases-bool (enabled m t))
         let b = apart-from (forbids t) m (λ p h. let f = free p in grind arith) in
         false≢true (sym e ∙ and-from (within (needs t) m) (apart (forbids t) m) a b)) ∙ sym e
 
+-- whether something stands in the way, by what comes first
+pub stopped : {X : Type 0} (l : List X) (o : Option X) → o ≡ first-of l → not (isSome o) ≡ none-in l
+stopped l o e = ap (λ x. not (isSome x)) e ∙ go l
+  where
+    go : {X : Type 0} (l : List X) → not (isSome (first-of l)) ≡ none-in l
+    go [] = refl
+    go (x ∷ xs) = refl
+
 twice : (b : Bool) → not (not b) ≡ b
 twice true = refl
 twice false = refl

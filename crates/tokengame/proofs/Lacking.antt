@@ -7,7 +7,7 @@ use Rattle.std.proofs.shelf.Lists.{getD-past}
 use Rattle.std.proofs.shelf.Tests.{and-right}
 use Rattle.bitset.proofs.Sets.{has-none}
 use Rattle.nets.specs.Nets.{Net, Transition, unconnected, at}
-use Rattle.nets.specs.Firing.{enabled, condition, can-fire, conflict}
+use Rattle.nets.specs.Firing.{enabled, can-fire, conflict}
 use Rattle.tokengame.proofs.Firings.{conflict-from, conflict-comm}
 
 module _ (n : Net) (t : ℕ) (past : length (n .transitions) ≤ t) where

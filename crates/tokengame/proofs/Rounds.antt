@@ -1,6 +1,6 @@
 -- A round: what is taken, and that it can be fired in any order.
 use mathlib.Core.Path.{_≡_, refl, sym, ap, ap₂, subst, _∙_}
-use mathlib.Core.Logic.{_⊎_, inl, inr, ⊎-elim}
+use mathlib.Core.Logic.{⊎-elim}
 use mathlib.Core.Bool.{Bool, true, false, not, cond, _&&_, _||_, true≢false, false≢true}
 use mathlib.Core.List.{List, [], _∷_, _++_}
 use Prim.Native.Nat.{ℕ, zero, suc, _+_, _≤_, _<_}
@@ -12,7 +12,7 @@ use Rattle.std.specs.shelf.Lists.{sumBy}
 use Rattle.std.specs.shelf.Sorted.{Shuffled}
 use Rattle.std.proofs.shelf.Sums.{sumBy-cons}
 use Rattle.std.proofs.shelf.Sorted.{sumBy-shuffled, shuffled-refl}
-use Rattle.std.proofs.shelf.Tests.{and-parts, and-from, or-parts, or-cases, not-true, eq-eqb, ne-eqb, cases-lt, cases-eq, cases-order, cases-bool}
+use Rattle.std.proofs.shelf.Tests.{and-parts, or-parts, or-cases, not-true, eq-eqb, ne-eqb, cases-lt, cases-order, cases-bool}
 use Rattle.std.proofs.shelf.Ways.{tells}
 use Rattle.bitset.specs.Sets.{has, without, only, below, members, tell, count}
 use Rattle.nets.specs.Nets.{Net, Transition, at}
@@ -21,7 +21,7 @@ use Rattle.nets.specs.Rounds.{begins, excluded, taken, union, fire-all, ends, F
 use Rattle.bitset.proofs.Sets.{below-from-has, has-or, has-without, has-none, has-only, same-word, count-members}
 use Rattle.nets.specs.WellFormed.{WellFormed}
 use Rattle.tokengame.proofs.Conditions.{condition-cut}
-use Rattle.tokengame.proofs.Firings.{Ready, ready, conflict-comm, has-fire, tokens, still-fires, tell-same}
+use Rattle.tokengame.proofs.Firings.{Ready, ready, conflict-comm, tokens, still-fires}
 
 -- SUMS OVER A LIST
 

@@ -1,22 +1,21 @@
 -- The laws of a round say which transitions it reports, and where it ends.
 use mathlib.Core.Path.{_≡_, refl, sym, ap, ap₂, subst, _∙_}
-use mathlib.Core.Logic.{_⊎_, inl, inr, ⊎-elim}
-use mathlib.Core.Bool.{Bool, true, false, not, cond, _&&_, _||_, true≢false, false≢true}
-use mathlib.Core.List.{List, [], _∷_, _++_}
-use Prim.Native.Nat.{ℕ, zero, suc, _+_, _^_, _≤_, _<_}
+use mathlib.Core.Logic.{⊎-elim}
+use mathlib.Core.Bool.{Bool, true, false, not, _&&_, false≢true}
+use mathlib.Core.List.{List, [], _∷_}
+use Prim.Native.Nat.{ℕ, zero, suc, _≤_, _<_}
 use native.Mathlib.Omega.{arith}
-use lib.Dec.{eqb, ltb}
 use lib.ListN.{length}
 use Rattle.std.specs.shelf.Sorted.{Shuffled}
 use Rattle.std.proofs.shelf.Sorted.{shuffled-refl, shuffled-cons, shuffled-trans, shuffled-swap}
-use Rattle.std.proofs.shelf.Tests.{and-parts, eq-eqb, ne-eqb, lt-ltb, cases-lt, cases-eq, cases-bool}
+use Rattle.std.proofs.shelf.Tests.{and-parts, ne-eqb, lt-ltb, cases-lt, cases-eq, cases-bool}
 use Rattle.bitset.specs.Sets.{has, members, tell, count}
 use Rattle.nets.specs.Nets.{Net, Transition, at}
-use Rattle.nets.specs.Firing.{enabled, can-fire, condition, fire, conflict}
+use Rattle.nets.specs.Firing.{enabled, can-fire, condition, fire, conflict, Conflicts-hinder}
 use Rattle.nets.specs.Rounds.{begins, excluded, report, ends, Fires, Round, Laws-tell-the-round}
 use Rattle.bitset.proofs.Sets.{has-past, same-word, count-members}
-use Rattle.tokengame.proofs.Firings.{Ready, ready, Free, conflict-from, has-fire, turn}
-use Rattle.tokengame.proofs.Rounds.{taken-past, excluded-same, greedy, count-shuffled, excluded-some, excluded-none, excluded-from, rounds-keep-their-laws}
+use Rattle.tokengame.proofs.Firings.{Ready, ready, conflict-from, conflict-comm, has-fire, still-fires, turn}
+use Rattle.tokengame.proofs.Rounds.{taken-past, excluded-same, greedy, count-shuffled, excluded-some, excluded-from, rounds-keep-their-laws}
 
 -- A LIST WITH ONE OF ITS ELEMENTS IN FRONT
 
@@ -65,6 +64,12 @@ either-order m w t u a b c d =
       produces-inhibits = λ p h. ruled-out′ (has (u .inhibits) p) (gave m w t p h) (r .inhibits p);
       inhibits-produces = λ p h. turn (λ k. ruled-out′ (has (t .inhibits) p) (gave m w u p k) (s .inhibits p)) h;
     }
+
+pub conflicts-hinder : Conflicts-hinder
+conflicts-hinder m w t u a c = (
+  λ k. (still-fires m w t u c k, still-fires m w u t a (conflict-comm u t ∙ k)),
+  λ h. either-order m w t u a (h .0) c (h .1),
+)
 
 fires-same : (n : Net) (w m : ℕ) (ts : List ℕ) (a b : ℕ) → Fires n w m ts a → Fires n w m ts b → a ≡ b
 fires-same n w m [] a b h k = sym h ∙ k

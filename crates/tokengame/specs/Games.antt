@@ -33,8 +33,7 @@ where-so b r = cond b (r ∷ []) []
 unfoldable pub each-hindering : ℕ → List GameRefusal
 each-hindering h = map NotEnabled (members h room)
 
--- all that stands in the way of transition t at marking m under line word w, in the order in which it is tested: a place that the net lacks,
--- a transition that it lacks, each place that hinders, and the condition
+-- all that stands in the way of transition t at marking m under line word w, in the order in which it is tested
 abbrev pub obstacles : Net → ℕ → ℕ → ℕ → List GameRefusal
 obstacles n m w t =
     where-so (not (within m (below (n .places)))) UnknownPlace
@@ -42,10 +41,16 @@ obstacles n m w t =
     ++ (each-hindering (hindering m (at n t))
     ++ where-so (not (condition w (at n t .terms))) ConditionFails))
 
--- nothing stands in the way exactly where the marking is of the net's places and the transition is one of the net and can fire;
--- a place that is told hinders, and no lower place does; and lines that the net lacks play no part
+-- the marking has places of the net only, and the transition is one of the net and can fire
+abbrev pub playable : Net → ℕ → ℕ → ℕ → Bool
+playable n m w t = within m (below (n .places)) && (ltb t (length (n .transitions)) && can-fire m w (at n t))
+
+-- what the obstacles say in the words of the net
 pub record Game-laws (n : Net) (m w t : ℕ) : Type 0 where
-  pub granted : none-in (obstacles n m w t) ≡ (within m (below (n .places)) && (ltb t (length (n .transitions)) && can-fire m w (at n t)))
+  -- there is none exactly where the transition can be played
+  pub granted : none-in (obstacles n m w t) ≡ playable n m w t
+  -- a place that is told hinders, and no lower place does
   pub lowest : (p : ℕ) → first-of (obstacles n m w t) ≡ Some (NotEnabled p)
       → (has (hindering m (at n t)) p ≡ true) × ((q : ℕ) → q < p → has (hindering m (at n t)) q ≡ false)
+  -- lines that the net lacks play no part
   pub lines-ignored : WellFormed n → obstacles n m w t ≡ obstacles n m (bitAnd w (below (n .lines))) t

@@ -68,5 +68,7 @@ pub fn can_fire(transition: &Transition, marking: PlaceSet, lines: u32) -> bool
 pub(crate) fn fire(transition: &Transition, marking: PlaceSet) -> PlaceSet
     ensures { λ r. ⌜ places-in r ≡ fired-marking (places-in marking) (transition-of (now (transition .entry))) ⌝ }
 {
-    marking.without(transition.consumes).union(transition.produces)
+    marking
+        .without(transition.consumes)
+        .union(transition.produces)
 }

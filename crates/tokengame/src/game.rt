@@ -1,12 +1,12 @@
 // The token game: one transition is fired at a marking, with no start rule.
 ghost use mathlib.Core.Path.{_≡_};
-ghost use Rattle.bitset.specs.Lists.{first-of, none-in};
+ghost use Rattle.bitset.specs.Lists.{first-of};
 ghost use Rattle.bitset.specs.Places.{places-in};
 ghost use Rattle.bitset.specs.Sets.{within, below};
 ghost use Rattle.nets.specs.Firing.{fire as fired-marking};
 ghost use Rattle.nets.specs.Nets.{at};
 ghost use Rattle.nets.specs.Stored.{net-of, transition-of};
-ghost use Rattle.tokengame.specs.Games.{obstacles, Game-laws};
+ghost use Rattle.tokengame.specs.Games.{obstacles, playable, Game-laws};
 ghost use Rattle.std.specs.Results.{errPart, isOk};
 ghost use Rattle.std.specs.Vec.{made};
 use crate::firing::condition_holds;
@@ -25,8 +25,14 @@ fn has_places(net: &Net, marking: PlaceSet) -> bool
 }
 
 // Transition `number` of the net, if nothing stands in the way of firing it.
-fn free_to_fire(net: &Net, marking: PlaceSet, lines: u32, number: usize) -> Result<&Transition, GameRefusal>
+fn free_to_fire(
+    net: &Net,
+    marking: PlaceSet,
+    lines: u32,
+    number: usize,
+) -> Result<&Transition, GameRefusal>
     ensures refused { λ r. ⌜ errPart r ≡ first-of (obstacles (net-of (now (net .entry))) (places-in marking) lines number) ⌝ }
+    ensures accepted { λ r. ⌜ isOk r ≡ playable (net-of (now (net .entry))) (places-in marking) lines number ⌝ }
     ensures granted { λ r. ⌜ made r (λ t. transition-of (now t) ≡ at (net-of (now (net .entry))) number) ⌝ }
     ensures laws { λ _. ⌜ Game-laws (net-of (now (net .entry))) (places-in marking) lines number ⌝ }
 {
@@ -46,8 +52,14 @@ fn free_to_fire(net: &Net, marking: PlaceSet, lines: u32, number: usize) -> Resu
 }
 
 // The marking after transition `number` fires, or the first thing that stands in its way.
-pub fn play(net: &Net, marking: PlaceSet, lines: u32, number: usize) -> Result<PlaceSet, GameRefusal>
+pub fn play(
+    net: &Net,
+    marking: PlaceSet,
+    lines: u32,
+    number: usize,
+) -> Result<PlaceSet, GameRefusal>
     ensures refused { λ r. ⌜ errPart r ≡ first-of (obstacles (net-of (now (net .entry))) (places-in marking) lines number) ⌝ }
+    ensures accepted { λ r. ⌜ isOk r ≡ playable (net-of (now (net .entry))) (places-in marking) lines number ⌝ }
     ensures granted { λ r. ⌜ made r (λ m. places-in m ≡ fired-marking (places-in marking) (at (net-of (now (net .entry))) number)) ⌝ }
     ensures laws { λ _. ⌜ Game-laws (net-of (now (net .entry))) (places-in marking) lines number ⌝ }
 {

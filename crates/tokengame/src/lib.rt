@@ -1,5 +1,5 @@
 // The token game of a net: which transitions can fire and which conflict, games, rounds and clashes.
-mod clash_search;
+mod clashing;
 mod conflicts;
 mod firing;
 mod game;
@@ -7,7 +7,7 @@ mod game_refusal;
 mod one_round;
 mod raised_outputs;
 
-pub use clash_search::first_clash;
+pub use clashing::first_clash;
 pub use conflicts::conflict;
 pub use firing::can_fire;
 pub use firing::hindering;

@@ -67,7 +67,13 @@ fn excluded(net: &Net, taken: TransitionSet, number: usize) -> bool
 }
 
 // The transitions that are taken after transition `number`, if `taken` are those below it.
-fn take_next(net: &Net, marking: PlaceSet, lines: u32, taken: TransitionSet, number: usize) -> TransitionSet
+fn take_next(
+    net: &Net,
+    marking: PlaceSet,
+    lines: u32,
+    taken: TransitionSet,
+    number: usize,
+) -> TransitionSet
     requires { ⌜ number < 64 ⌝ }
     ensures { λ r. ⌜ transitions-in r ≡ take-next (net-of (now (net .entry))) (places-in marking) lines number (transitions-in taken) ⌝ }
 {

@@ -13,9 +13,9 @@ returns-in-Strict c =
     let kept = c .in-Continue-net .ensures tt in
     let o = c .without-clash .result in
     let first : errPart o ≡ first-of (broken-under (c .args .strictness) file) =
-      c .without-clash .ensures .refused
-      ∙ ap (λ n. first-of (clash-broken (first-clash n))) (kept .granted)
-      ∙ sym (ap first-of (ap (λ s. broken-under s file) (c .in-Strict .is) ∙ only-clash file (kept .accepted))) in
+    c .without-clash .ensures .refused
+    ∙ ap (λ n. first-of (clash-broken (first-clash n))) (kept .granted)
+    ∙ sym (ap first-of (ap (λ s. broken-under s file) (c .in-Strict .is) ∙ only-clash file (kept .accepted))) in
     let same = same-net file (c .in-Continue-net .net) o (kept .granted) (kept .said) (kept .lawful) (c .without-clash .ensures .granted) in
     record {
       refused = first;

@@ -1,5 +1,4 @@
-use mathlib.Core.Path.{sym, ap, _∙_}
-use mathlib.Core.Bool.{_||_}
+use mathlib.Core.Path.{sym}
 use native.Mathlib.Numerals.{add-one}
 use Rattle.std.proofs.shelf.Tests.{and-parts, or-from}
 use Rattle.bitset.specs.Sets.{has}

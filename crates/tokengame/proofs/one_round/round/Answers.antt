@@ -15,7 +15,7 @@ returns c =
     let m = places-in (c .args .marking) in
     let w = c .args .lines in
     let told : transitions-in (c .taken-report .result) ≡ report n m w =
-      c .taken-report .ensures ∙ ap (λ (b : ℕ). taken n b w (length (n .transitions))) (c .begins-start .ensures) in
+    c .taken-report .ensures ∙ ap (λ (b : ℕ). taken n b w (length (n .transitions))) (c .begins-start .ensures) in
     let ended : places-in (c .fire-all-marking .result) ≡ ends n m w = c .fire-all-marking .ensures ∙ ap₂ (fire-all n) told (c .begins-start .ensures) in
     record {
       report = told;

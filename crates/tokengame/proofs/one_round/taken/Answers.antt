@@ -1,6 +1,5 @@
 use mathlib.Core.Path.{ap, _∙_}
 use native.Mathlib.Numerals.{add-one}
-use native.Mathlib.Omega.{arith}
 use Rattle.bitset.specs.Places.{places-in}
 use Rattle.nets.specs.Rounds.{take-next}
 use Rattle.nets.specs.Stored.{net-of}

@@ -3,7 +3,7 @@ use Rattle.nets.specs.Clashes.{clash-between}
 use Rattle.nets.specs.Nets.{at}
 use Rattle.nets.specs.Stored.{net-of}
 use Rattle.tokengame.proofs.Clashes.{found-at, none-yet}
-use Rattle.tokengame.proofs.clash_search.clash_below.Needs as need
+use Rattle.tokengame.proofs.clashing.clash_below.Needs as need
 
 pub returns-in-Some : need.returns-in-Some
 returns-in-Some c =

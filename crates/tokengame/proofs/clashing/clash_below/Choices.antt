@@ -3,7 +3,7 @@ use Rattle.std.specs.declared.option.Option.the-variants.{None}
 use Rattle.nets.specs.Clashes.{first-below, clash-between}
 use Rattle.nets.specs.Nets.{at}
 use Rattle.nets.specs.Stored.{net-of}
-use Rattle.tokengame.proofs.clash_search.clash_below.Given as given
+use Rattle.tokengame.proofs.clashing.clash_below.Given as given
 
 abbrev pub Inv-loop-lower : given.InvT-loop-lower
 Inv-loop-lower l =

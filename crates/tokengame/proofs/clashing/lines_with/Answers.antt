@@ -2,7 +2,7 @@ use mathlib.Core.Path.{sym, _∙_}
 use Rattle.std.proofs.shelf.Lists.{at-drop-all}
 use Rattle.nets.specs.Clashes.{lines-of-both, lines-with}
 use Rattle.tokengame.proofs.Clashes.{next-over}
-use Rattle.tokengame.proofs.clash_search.lines_with.Needs as need
+use Rattle.tokengame.proofs.clashing.lines_with.Needs as need
 
 pub returns-in-Some : need.returns-in-Some
 returns-in-Some c = next-over (lines-of-both (c .args .term)) _ _ _ _ (c .loop-other-test .taken) (c .in-Some .ensures tt) ∙ c .loop-other .inv

@@ -2,7 +2,7 @@ use mathlib.Core.Path.{sym, _∙_}
 use Rattle.std.proofs.shelf.Lists.{at-drop-all}
 use Rattle.nets.specs.Clashes.{lines-with, lines-for}
 use Rattle.tokengame.proofs.Clashes.{next-over}
-use Rattle.tokengame.proofs.clash_search.lines_for.Needs as need
+use Rattle.tokengame.proofs.clashing.lines_for.Needs as need
 
 pub returns-in-Some : need.returns-in-Some
 returns-in-Some c =

@@ -1,4 +1,4 @@
-// The search for a clash: two conflicting transitions that can both fire at some marking under some line word.
+// Finding a clash: two conflicting transitions that can both fire at some marking under some line word.
 ghost use Prim.Native.Nat.{_<_};
 ghost use mathlib.Core.Path.{_≡_};
 ghost use lib.ListN.{length};

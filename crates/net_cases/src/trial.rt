@@ -1,5 +1,6 @@
-// The trial of the reader, case by case.
+// The trial of the calls on files and nets, case by case.
 use crate::bytes::push_text;
+use crate::questions::answer_about;
 use nettext::CodeText;
 use nettext::CodeTextDisplay;
 use nettext::NetText;
@@ -91,6 +92,7 @@ impl Trial {
                 Ok(())
             }
             "case" => self.try_case(rt, rest),
+            "net" => self.try_net(rt, rest),
             "#" | "##" => Ok(()),
             _ => Err(io::ErrorKind::InvalidData.into()),
         }
@@ -108,17 +110,34 @@ impl Trial {
             }
         }
         let got = answer_to(rt.alloc(), file.as_slice())?;
-        self.note(rt, name, got.as_str())?;
+        let expected = self.answer.clone()?;
+        self.note(rt, name, expected.as_str(), got.as_str())?;
         if in_words {
             return print_words(rt, file.as_slice());
         }
         Ok(())
     }
 
+    // Asks about a net: its name is the first line, and the others say the file's bytes, then a question and its answer each.
+    fn try_net(&mut self, rt: &LibcRuntime, paragraph: &str) -> io::Result<()> {
+        let (name, lines) = paragraph.split_once('\n').unwrap_or((paragraph, ""));
+        let mut file = Vec::new(rt.alloc());
+        for line in lines.lines() {
+            match line.split_once(" = ") {
+                Some((question, expected)) => {
+                    let got = answer_about(rt.alloc(), file.as_slice(), question)?;
+                    let asked = format!(rt.alloc(), "{name}, {question}")?;
+                    self.note(rt, asked.as_str(), expected, got.as_str())?;
+                }
+                None => add_line(rt, &mut file, line)?,
+            }
+        }
+        Ok(())
+    }
+
     // Counts a case, and prints how it was answered.
-    fn note(&mut self, rt: &LibcRuntime, name: &str, got: &str) -> io::Result<()> {
+    fn note(&mut self, rt: &LibcRuntime, name: &str, expected: &str, got: &str) -> io::Result<()> {
         self.cases = self.cases.saturating_add(1);
-        let expected = self.answer.as_str();
         if got.as_bytes() == expected.as_bytes() {
             return println!(rt, "ok    {name}: {got}");
         }
