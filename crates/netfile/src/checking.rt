@@ -37,7 +37,7 @@ pub fn check(file: &[u8], strictness: Strictness) -> Result<Net, Refusal>
     ensures granted { λ r. ⌜ made r (λ n. net-of n ≡ net-in (now (file .entry))) ⌝ }
     ensures said { λ r. ⌜ made r (λ n. Says (now (file .entry)) (net-of n)) ⌝ }
     ensures lawful { λ r. ⌜ made r (λ n. WellFormed (net-of n)) ⌝ }
-    ensures strict { λ r. ⌜ (strictness ≡ Strict → none-in (broken (now (file .entry))) ≡ true → Clash-or-none (net-in (now (file .entry))) (errPart r)) ⌝ }
+    ensures strict { λ r. ⌜ (strictness ≡ Strict → none-in (broken (now (file .entry))) ≡ true → WellFormed (net-in (now (file .entry))) × Clash-or-none (net-in (now (file .entry))) (errPart r)) ⌝ }
 {
     let net = read(file)?;
     match strictness {

@@ -9,7 +9,7 @@ use Rattle.std.proofs.shelf.Tests.{and-parts, and-from}
 use Rattle.bitset.specs.Sets.{has, within, apart, without, tell}
 use Rattle.nets.specs.Nets.{Transition}
 use Rattle.nets.specs.Firing.{enabled, can-fire, condition, fire, conflict}
-use Rattle.bitset.proofs.Sets.{has-or, has-without, within-each, within-from, apart-each, apart-from, apart-comm, same-word}
+use Rattle.bitset.proofs.Sets.{has-or, has-without, within-each, within-from, apart-each, apart-from, apart-comm}
 
 -- what it is to be enabled, place by place
 pub record Ready (m : ℕ) (t : Transition) : Type 0 where

@@ -1,6 +1,7 @@
 use mathlib.Core.Path.{_≡_, sym, ap, subst, _∙_}
 use Rattle.bitset.specs.Lists.{first-of}
 use Rattle.nets.specs.Clashes.{first-clash}
+use Rattle.nets.specs.WellFormed.{WellFormed}
 use Rattle.std.specs.Results.{errPart}
 use Rattle.netfile.specs.Strictness.{clash-broken, broken-under, Clash-or-none}
 use Rattle.netfile.proofs.Strict.{only-clash, same-net}
@@ -23,5 +24,8 @@ returns-in-Strict c =
       granted = same .0;
       said = same .1;
       lawful = same .2;
-      strict = λ e f. subst (λ n. Clash-or-none n (errPart o)) (kept .granted) (c .without-clash .ensures .law);
+      strict = λ e f. (
+        subst WellFormed (kept .granted) (kept .lawful),
+        subst (λ n. Clash-or-none n (errPart o)) (kept .granted) (c .without-clash .ensures .law),
+      );
     }
