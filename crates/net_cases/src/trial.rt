@@ -53,6 +53,23 @@ fn add_line(rt: &LibcRuntime, file: &mut Vec<u8>, line: &str) -> io::Result<()> 
     }
 }
 
+// Prints how a case was answered, and says whether rightly.
+fn show(rt: &LibcRuntime, name: &str, expected: &str, got: &str) -> io::Result<bool> {
+    let right = got.as_bytes() == expected.as_bytes();
+    if right {
+        println!(rt, "ok    {name}: {got}")?;
+    } else {
+        println!(rt, "WRONG {name}: expected {expected}, got {got}")?;
+    }
+    Ok(right)
+}
+
+// Asks one question about the net of a file, and says whether it was answered rightly.
+fn ask(rt: &LibcRuntime, file: &[u8], question: &str, expected: &str) -> io::Result<bool> {
+    let got = answer_about(rt.alloc(), file, question)?;
+    show(rt, question, expected, got.as_str())
+}
+
 // The answer that the next cases are to get, and how many cases were tried and answered wrongly.
 #[derive(Drop)]
 pub struct Trial {
@@ -110,8 +127,8 @@ impl Trial {
             }
         }
         let got = answer_to(rt.alloc(), file.as_slice())?;
-        let expected = self.answer.clone()?;
-        self.note(rt, name, expected.as_str(), got.as_str())?;
+        let right = self.compare(rt, name, got.as_str())?;
+        self.count(right);
         if in_words {
             return print_words(rt, file.as_slice());
         }
@@ -121,13 +138,12 @@ impl Trial {
     // Asks about a net: its name is the first line, and the others say the file's bytes, then a question and its answer each.
     fn try_net(&mut self, rt: &LibcRuntime, paragraph: &str) -> io::Result<()> {
         let (name, lines) = paragraph.split_once('\n').unwrap_or((paragraph, ""));
+        println!(rt, "      {name}")?;
         let mut file = Vec::new(rt.alloc());
         for line in lines.lines() {
             match line.split_once(" = ") {
                 Some((question, expected)) => {
-                    let got = answer_about(rt.alloc(), file.as_slice(), question)?;
-                    let asked = format!(rt.alloc(), "{name}, {question}")?;
-                    self.note(rt, asked.as_str(), expected, got.as_str())?;
+                    self.count(ask(rt, file.as_slice(), question, expected)?);
                 }
                 None => add_line(rt, &mut file, line)?,
             }
@@ -135,13 +151,16 @@ impl Trial {
         Ok(())
     }
 
-    // Counts a case, and prints how it was answered.
-    fn note(&mut self, rt: &LibcRuntime, name: &str, expected: &str, got: &str) -> io::Result<()> {
+    // Compares an answer with the one that is to be, prints it, and says whether it is right.
+    fn compare(&self, rt: &LibcRuntime, name: &str, got: &str) -> io::Result<bool> {
+        show(rt, name, self.answer.as_str(), got)
+    }
+
+    // Counts a case that was answered rightly or wrongly.
+    fn count(&mut self, right: bool) {
         self.cases = self.cases.saturating_add(1);
-        if got.as_bytes() == expected.as_bytes() {
-            return println!(rt, "ok    {name}: {got}");
+        if !right {
+            self.wrong = self.wrong.saturating_add(1);
         }
-        self.wrong = self.wrong.saturating_add(1);
-        println!(rt, "WRONG {name}: expected {expected}, got {got}")
     }
 }
