@@ -1,4 +1,6 @@
 // Words as sets of numbers, and the set of places.
+#![tactic(auto)]
+
 ghost use Rattle.std.specs.Prelude.{◌≡◌, true};
 ghost use Rattle.bitset.specs.Laws.{SetLaws};
 

@@ -1,4 +1,6 @@
 // Ladders: steps and coils, which steps are whole rungs, and their run over any kind of level.
+#![tactic(auto)]
+
 mod coil;
 mod flow;
 mod grammar;

@@ -1,4 +1,6 @@
 // Tries the reader of net files on the files of a table, and the token game on the nets of another, and says where an answer is not the table's.
+#![tactic(auto)]
+
 mod bytes;
 mod questions;
 mod trial;

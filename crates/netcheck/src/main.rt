@@ -1,4 +1,6 @@
 // Says whether a net file keeps the rules: what is in it, or the first rule that it breaks.
+#![tactic(auto)]
+
 mod command;
 mod failure;
 

@@ -1,4 +1,6 @@
 // The net file: its records, the rules on them, the reader, and the check.
+#![tactic(auto)]
+
 mod arcs;
 mod checking;
 mod places;

@@ -1,4 +1,6 @@
 // The layout of a net file, and the refusals of all its rules.
+#![tactic(auto)]
+
 mod layout;
 mod refusal;
 mod table;

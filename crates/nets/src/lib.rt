@@ -1,4 +1,6 @@
 // Signal interpreted Petri nets: the structs that hold one, of fixed size, and what a net means.
+#![tactic(auto)]
+
 mod arc_kind;
 mod clash;
 mod counts;

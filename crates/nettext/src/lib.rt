@@ -1,4 +1,6 @@
 // Nets and refusals in words, for whoever reads what a program prints.
+#![tactic(auto)]
+
 mod net_text;
 mod nouns;
 mod reason;

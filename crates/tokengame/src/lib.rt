@@ -1,4 +1,6 @@
 // The token game of a net: which transitions can fire and which conflict, games, rounds and clashes.
+#![tactic(auto)]
+
 mod clashing;
 mod conflicts;
 mod firing;

@@ -4,8 +4,8 @@ use Rattle.bitset.specs.Places.{how_many}
 use Rattle.bitset.proofs.Sets.{ones_members}
 use Rattle.bitset.proofs.bits.count.Goals as goal
 
-pub overflow-cast-result : goal.overflow-cast-result
-overflow-cast-result c = omega (arith, ones-le 64 c.args.word (omega arith))
+pub overflow_cast-result : goal.overflow_cast-result
+overflow_cast-result c = omega (arith, ones-le 64 c.args.word (omega arith))
 
 pub returns : goal.returns
 unfolding how_many

@@ -14,7 +14,7 @@ returns-in-Some c =
 
 pub loop-higher-preserved : goal.loop-higher-preserved
 loop-higher-preserved c =
-    none_yet (clash_below (net_of c.args.net.now)) c.loop-higher.higher c.loop-higher.invariant (sym c.in-default.ensures)
+    none_yet (clash_below (net_of c.args.net.now)) c.loop-higher.higher c.loop-higher.invariant (sym c.in_default.ensures)
 
 pub returns : goal.returns
 returns c =

@@ -10,7 +10,7 @@ returns-in-Some c =
 
 pub loop-term-preserved : goal.loop-term-preserved
 loop-term-preserved c =
-    next_over (λ t. lines_with t c.args.others.now) _ _ _ _ c.loop-term-test.true c.in-default.ensures ∙ c.loop-term.invariant
+    next_over (λ t. lines_with t c.args.others.now) _ _ _ _ c.loop-term-test.true c.in_default.ensures ∙ c.loop-term.invariant
 
 pub returns : goal.returns
 returns c =

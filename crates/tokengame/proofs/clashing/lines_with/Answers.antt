@@ -8,7 +8,7 @@ pub returns-in-Some : goal.returns-in-Some
 returns-in-Some c = next_over (lines_of_both c.args.term) _ _ _ _ c.loop-other-test.true c.in-Some.ensures ∙ c.loop-other.invariant
 
 pub loop-other-preserved : goal.loop-other-preserved
-loop-other-preserved c = next_over (lines_of_both c.args.term) _ _ _ _ c.loop-other-test.true c.in-default.ensures ∙ c.loop-other.invariant
+loop-other-preserved c = next_over (lines_of_both c.args.term) _ _ _ _ c.loop-other-test.true c.in_default.ensures ∙ c.loop-other.invariant
 
 pub returns : goal.returns
 returns c = sym (at_drop_all (lines_with c.args.term) c.args.others.now c.loop-other.other-index c.loop-other-test.false) ∙ c.loop-other.invariant

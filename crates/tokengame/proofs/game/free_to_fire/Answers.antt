@@ -24,7 +24,7 @@ returns-in-default c =
 pub returns-in-Some-lowest : goal.returns-in-Some-lowest
 returns-in-Some-lowest c =
     let n = net_of c.args.net.now in
-    let e = sym c.if-not-has-places.ensures in
+    let e = sym c.if-not-has_places.ensures in
     let t = c.in-Some.ensures in
     let h = c.hindering.ensures ∙ ap (hindering (places_in c.args.marking)) t.1 in
     let o = c.lowest.ensures.lowest ∙ ap lowest_in h in
@@ -47,11 +47,11 @@ returns-then-not-condition-holds c =
 pub returns : goal.returns
 returns c =
     let n = net_of c.args.net.now in
-    let e = sym c.if-not-has-places.ensures in
+    let e = sym c.if-not-has_places.ensures in
     let t = c.in-Some.ensures in
     let h = c.hindering.ensures ∙ ap (hindering (places_in c.args.marking)) t.1 in
     let o = c.lowest.ensures.lowest ∙ ap lowest_in h in
-    let k = c.if-not-condition-holds.ensures ∙ ap (condition c.args.lines) c.as-slice.ensures ∙ ap (λ x. condition c.args.lines x.terms) t.1 in
+    let k = c.if-not-condition_holds.ensures ∙ ap (condition c.args.lines) c.as_slice.ensures ∙ ap (λ x. condition c.args.lines x.terms) t.1 in
     let first = sym (condition_told n _ _ _ e t.0 (sym o ∙ c.in-default-lowest.is) _ k) in
     let laws = game_laws n _ _ _ (λ f l. listed _ _ o (c.lowest.ensures.found ∙ ap (λ (x : ℕ). not (eqb x 0)) h)) in
     record { refused = first; accepted = stopped _ _ first ∙ laws.granted; granted = t.1; laws = laws }

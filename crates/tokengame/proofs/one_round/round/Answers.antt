@@ -14,11 +14,11 @@ returns c =
     let w = c.args.lines in
     let told : transitions_in c.taken-report.result ≡ report n m w =
     c.taken-report.ensures ∙ ap (λ (b : ℕ). taken n b w (length n.transitions)) c.begins-start.ensures in
-    let ended : places_in c.fire-all-marking.result ≡ ends n m w = c.fire-all-marking.ensures ∙ ap₂ (fire_all n) told c.begins-start.ensures in
+    let ended : places_in c.fire_all-marking.result ≡ ends n m w = c.fire_all-marking.ensures ∙ ap₂ (fire_all n) told c.begins-start.ensures in
     record {
       report = told;
       end = ended;
-      law = subst (λ r. Round n w m r (places_in c.fire-all-marking.result)) (sym told) (subst (Round n w m (report n m w)) (sym ended) (rounds_keep_their_laws n m w));
+      law = subst (λ r. Round n w m r (places_in c.fire_all-marking.result)) (sym told) (subst (Round n w m (report n m w)) (sym ended) (rounds_keep_their_laws n m w));
       told = laws_tell_the_round;
       weights = rounds_keep_weights;
       ignored = lines_ignored n m w;

@@ -5,5 +5,5 @@ use Rattle.nets.specs.Stored.{net_of}
 use Rattle.tokengame.proofs.one_round.taken.Goals as goal
 
 pub loop-number-preserved : goal.loop-number-preserved
-loop-number-preserved c = rw add-one (c.take-next-taken.ensures
+loop-number-preserved c = rw add-one (c.take_next-taken.ensures
     ∙ ap (take_next (net_of c.args.net.now) (places_in c.args.marking) c.args.lines c.loop-number.number) c.loop-number.invariant)

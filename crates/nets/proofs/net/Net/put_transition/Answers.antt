@@ -2,8 +2,8 @@ use Rattle.std.proofs.Common.{arith}
 use Rattle.nets.proofs.Filling.{length_transitions, transition_put}
 use Rattle.nets.proofs.net.Net.put_transition.Goals as goal
 
-pub offset-bounds-self-number : goal.offset-bounds-self-number
-offset-bounds-self-number c =
+pub offset_bounds-self-number : goal.offset_bounds-self-number
+offset_bounds-self-number c =
     let range = c.args.self.now.counts.transitions_in_range in omega (arith, length_transitions c.args.self.now, c.requires)
 
 pub listed : goal.listed
