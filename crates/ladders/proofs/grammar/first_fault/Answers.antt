@@ -12,6 +12,6 @@ loop-index-preserved c = sym (stands _ _ _ _ c.loop-index-test.true _ (sym c.in-
 
 pub returns : goal.returns
 returns c =
-    c.at-end.ensures ∙ ap (ended c.loop-index.position) (omega arith)
+    c.at_end.ensures ∙ ap (ended c.loop-index.position) (omega arith)
     ∙ sym (at_drop_all (from c.loop-index.position c.loop-index.index) c.args.steps.now c.loop-index.index c.loop-index-test.false)
     ∙ c.loop-index.invariant

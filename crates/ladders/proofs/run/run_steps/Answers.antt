@@ -5,13 +5,13 @@ use Rattle.ladders.proofs.Named.{named_within}
 use Rattle.ladders.proofs.Turns.{steps_on}
 use Rattle.ladders.proofs.run.run_steps.Goals as goal
 
-pub take-step-flow-requires : goal.take-step-flow-requires
-take-step-flow-requires g c =
+pub take_step-flow-requires : goal.take_step-flow-requires
+take_step-flow-requires g c =
     named_within c.args.steps.now _ c.loop-step.step-index _ c.requires.whole (omega arith) c.loop-step-test.true
 
 pub loop-step-preserved : goal.loop-step-preserved
 loop-step-preserved g c =
-    steps_on g.L.Level.operations _ _ _ _ _ _ _ c.loop-step-test.true c.take-step-flow.ensures.coils c.take-step-flow.ensures.flow
+    steps_on g.L.Level.operations _ _ _ _ _ _ _ c.loop-step-test.true c.take_step-flow.ensures.coils c.take_step-flow.ensures.flow
     ∙ c.loop-step.invariant
 
 pub returns : goal.returns

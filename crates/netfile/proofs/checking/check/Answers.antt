@@ -11,13 +11,13 @@ use Rattle.netfile.proofs.checking.check.Goals as goal
 pub returns-in-Strict : goal.returns-in-Strict
 returns-in-Strict c =
     let file = c.args.file.now in
-    let kept = c.in-ok-net.ensures in
-    let o = c.without-clash.result in
+    let kept = c.in_ok-net.ensures in
+    let o = c.without_clash.result in
     let first : result_err o ≡ first_of (broken_under c.args.strictness file) =
-    c.without-clash.ensures.refused
+    c.without_clash.ensures.refused
     ∙ ap (λ n. first_of (clash_broken (first_clash n))) kept.granted
     ∙ sym (ap first_of (ap (λ s. broken_under s file) c.in-Strict.is ∙ only_clash file kept.accepted)) in
-    let same = same_net file c.in-ok-net.net o kept.granted kept.said kept.lawful c.without-clash.ensures.granted in
+    let same = same_net file c.in_ok-net.net o kept.granted kept.said kept.lawful c.without_clash.ensures.granted in
     record {
       refused = first;
       accepted = accepted_from o (broken_under c.args.strictness file) first;
@@ -26,6 +26,6 @@ returns-in-Strict c =
       lawful = same.2;
       strict = λ e f. (
         subst WellFormed kept.granted kept.lawful,
-        subst (λ n. ClashOrNone n (result_err o)) kept.granted c.without-clash.ensures.law,
+        subst (λ n. ClashOrNone n (result_err o)) kept.granted c.without_clash.ensures.law,
       );
     }

@@ -8,24 +8,24 @@ use Rattle.netfile.specs.Steps.{put_place, place_wrong, with_place_put}
 use Rattle.netfile.proofs.Turns.{turn_on, turn_out}
 use Rattle.netfile.proofs.places.put_places.Goals as goal
 
-pub returns-in-err-put-place : goal.returns-in-err-put-place
-returns-in-err-put-place c =
-    let p = err_from_is_err_and c.from-residual.result c.from-residual.ensures.1 in
-    let broken = c.in-err-put-place.ensures.refused in
+pub returns-in_err-put_place : goal.returns-in_err-put_place
+returns-in_err-put_place c =
+    let p = err_from_is_err_and c.from_residual.result c.from_residual.ensures.1 in
+    let broken = c.in_err-put_place.ensures.refused in
     record {
       refused =
           ap result_err p.1
           ∙ turn_out (put_place c.args.table.now) (λ m i. place_wrong m (place_record c.args.table.now i) i)
           (net_of c.args.net.now) c.loop-i.i (net_of c.loop-i.net) c.loop-i.invariant _ p.0
-          (subst (λ (n : ℕ). c.loop-i.i < n) c.record-count-i-end.ensures c.loop-i-test.true)
-          (ap Some p.2 ∙ broken ∙ ap (λ x. first_of (place_wrong (net_of c.loop-i.net) x c.loop-i.i)) c.place-at.ensures);
-      granted = IfOk-from_err c.from-residual.result _ (ap is_err p.1);
+          (subst (λ (n : ℕ). c.loop-i.i < n) c.record_count-i-end.ensures c.loop-i-test.true)
+          (ap Some p.2 ∙ broken ∙ ap (λ x. first_of (place_wrong (net_of c.loop-i.net) x c.loop-i.i)) c.place_at.ensures);
+      granted = IfOk-from_err c.from_residual.result _ (ap is_err p.1);
     }
 
 pub loop-i-preserved : goal.loop-i-preserved
 loop-i-preserved c =
-    let kept = c.in-ok-put-place.ensures in
+    let kept = c.in_ok-put_place.ensures in
     turn_on (put_place c.args.table.now) (λ m i. place_wrong m (place_record c.args.table.now i) i)
     (net_of c.args.net.now) c.loop-i.i (net_of c.loop-i.net) c.loop-i.invariant _
-    (kept.refused ∙ ap (λ x. first_of (place_wrong (net_of c.loop-i.net) x c.loop-i.i)) c.place-at.ensures)
-    (kept.granted ∙ ap (λ x. with_place_put (net_of c.loop-i.net) c.loop-i.i x) c.place-at.ensures)
+    (kept.refused ∙ ap (λ x. first_of (place_wrong (net_of c.loop-i.net) x c.loop-i.i)) c.place_at.ensures)
+    (kept.granted ∙ ap (λ x. with_place_put (net_of c.loop-i.net) c.loop-i.i x) c.place_at.ensures)

@@ -9,23 +9,23 @@ use Rattle.nets.proofs.Items.{item_at, as_long}
 use Rattle.netfile.proofs.Lists.{none_more, first_at}
 use Rattle.netfile.proofs.transitions.check_transitions.Goals as goal
 
-pub returns-in-err-check-transition : goal.returns-in-err-check-transition
-returns-in-err-check-transition c =
-    let p = err_from_is_err_and c.from-residual.result c.from-residual.ensures.1 in
+pub returns-in_err-check_transition : goal.returns-in_err-check_transition
+returns-in_err-check_transition c =
+    let p = err_from_is_err_and c.from_residual.result c.from_residual.ensures.1 in
     let n = net_of c.args.net.now in
     let here = item_at n _ c.transitions-transition-items.ensures c.loop-i.i c.transition-item.result c.loop-i-test.true c.transition-item.is in
     let long = as_long n _ c.transitions-transition-items.ensures in
     ap result_err p.1
     ∙ sym (first_at (λ t. transition_broken (at n t) t) c.loop-i.i (length n.transitions) p.0
     (subst (λ (k : ℕ). c.loop-i.i < k) long c.loop-i-test.true) c.loop-i.invariant
-    (ap (λ x. first_of (transition_broken x c.loop-i.i)) (sym here) ∙ sym c.in-err-check-transition.ensures ∙ ap Some (sym p.2)))
+    (ap (λ x. first_of (transition_broken x c.loop-i.i)) (sym here) ∙ sym c.in_err-check_transition.ensures ∙ ap Some (sym p.2)))
 
 pub loop-i-preserved : goal.loop-i-preserved
 loop-i-preserved c =
     let n = net_of c.args.net.now in
     let here = item_at n _ c.transitions-transition-items.ensures c.loop-i.i c.transition-item.result c.loop-i-test.true c.transition-item.is in
     none_more (λ t. transition_broken (at n t) t) c.loop-i.i c.loop-i.invariant
-    (ap (λ x. first_of (transition_broken x c.loop-i.i)) (sym here) ∙ sym c.in-ok-check-transition.ensures)
+    (ap (λ x. first_of (transition_broken x c.loop-i.i)) (sym here) ∙ sym c.in_ok-check_transition.ensures)
 
 pub returns : goal.returns
 returns c =

@@ -2,4 +2,4 @@ use Rattle.tokengame.proofs.Told.{conflicts_hinder}
 use Rattle.tokengame.proofs.conflicts.conflict.Goals as goal
 
 pub returns : goal.returns
-returns c = record { answer = c.«share-a-place».ensures; law = conflicts_hinder }
+returns c = record { answer = c.share_a_place.ensures; law = conflicts_hinder }
