@@ -14,7 +14,7 @@ pub struct Flow<L> {
 impl<L: Level> Flow<L> {
     // Before the first rung.
     pub fn none() -> Flow<L>
-        ensures { result ≡ no_flow operations }
+        ensures { result ≡ no_flow L.operations }
     {
         Flow {
             result: L::low(),
@@ -24,7 +24,7 @@ impl<L: Level> Flow<L> {
 
     // `x` joined to the open group, or to the result where none is open.
     fn join(self, x: L) -> Flow<L>
-        ensures { result ≡ joined_flow operations x self }
+        ensures { result ≡ joined_flow L.operations x self }
     {
         match self.group {
             Some(group) => Flow {
@@ -40,7 +40,7 @@ impl<L: Level> Flow<L> {
 
     // The group is closed: either of result and group.
     fn close(self) -> Flow<L>
-        ensures { result ≡ closed_flow operations self }
+        ensures { result ≡ closed_flow L.operations self }
     {
         match self.group {
             Some(group) => Flow {
@@ -53,7 +53,7 @@ impl<L: Level> Flow<L> {
 
     // The flow after an operation on a coil at level `x`.
     pub(crate) fn after(self, op: Op, x: L) -> Flow<L>
-        ensures { result ≡ flowing operations op x self }
+        ensures { result ≡ flowing L.operations op x self }
     {
         match op {
             Op::Ld => Flow {

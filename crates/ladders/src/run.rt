@@ -9,7 +9,7 @@ use levels::Level;
 
 // What a storing operation leaves on a coil at level `x`.
 fn stored_level<L: Level>(op: Op, res: L, x: L) -> L
-    ensures { result ≡ stored operations op res x }
+    ensures { result ≡ stored L.operations op res x }
 {
     match op {
         Op::St => res,
@@ -22,8 +22,8 @@ fn stored_level<L: Level>(op: Op, res: L, x: L) -> L
 // One step: the flow after it, and what it stores.
 pub(crate) fn take_step<L: Level>(flow: Flow<L>, step: Step, coils: &mut [L]) -> Flow<L>
     requires { step.coil < length coils.old }
-    ensures flow { result ≡ flow_past operations step coils.old flow }
-    ensures coils { coils.new ≡ written operations step coils.old flow }
+    ensures flow { result ≡ flow_past L.operations step coils.old flow }
+    ensures coils { coils.new ≡ written L.operations step coils.old flow }
 {
     let coil = step.coil as usize;
     let x = coils[coil];
@@ -37,7 +37,7 @@ pub(crate) fn take_step<L: Level>(flow: Flow<L>, step: Step, coils: &mut [L]) ->
 pub(crate) fn run_steps<L: Level>(steps: &[Step], coils: &mut [L])
     requires whole { grammar steps.now ≡ Ok tt }
     requires count { length coils.old ≡ 193 }
-    ensures { coils.new ≡ ran operations steps.now coils.old }
+    ensures { coils.new ≡ ran L.operations steps.now coils.old }
 {
     let mut flow = Flow::none();
     for step in steps {

@@ -10,6 +10,7 @@ use netfile::Strictness;
 use netlayout::Refusal;
 use nets::Net;
 use nettext::{CodeText, Counted, NetText, Noun, Reason};
+use std::process::ExitCode;
 use std::{env, fs, io};
 
 // The bytes of the file of this name; a missing file has none.
@@ -68,10 +69,12 @@ fn run(rt: &HostRuntime) -> Result<(), Failure> {
 }
 
 // Runs, and says on standard error what went wrong.
-fn main(rt: HostRuntime) -> Result<(), Failure> {
-    let outcome = run(&rt);
-    if let Err(failure) = &outcome {
-        failure.report(&rt);
+fn main(rt: HostRuntime) -> ExitCode {
+    match run(&rt) {
+        Ok(()) => ExitCode::SUCCESS,
+        Err(failure) => {
+            failure.report(&rt);
+            ExitCode::FAILURE
+        }
     }
-    outcome
 }
