@@ -1,5 +1,5 @@
 -- Each coil has one name and one number.
-use Rattle.std.proofs.Common.{◌≡◌, ℕ, ◌+◌, ◌-◌, ◌<◌, Bool, true, false, cond, ltb, is_some, Some, None, refl, arith}
+use Rattle.std.proofs.Common.{◌≡◌, ℕ, ltb, is_some, Some, arith}
 use Rattle.std.proofs.lemmas.Bool.Decides.{nat_tests}
 use Rattle.ladders.specs.declared.coil.Coil.{Coil}
 use Rattle.ladders.specs.declared.coil.Coil.TheVariants.{Line, Start, Place, Transition, Output}

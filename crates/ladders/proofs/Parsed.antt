@@ -1,5 +1,5 @@
 -- Steps that are walked along to the end are whole rungs.
-use Rattle.std.proofs.Common.{◌≡◌, ℕ, ◌<◌, ◌≤◌, Bool, true, false, cond, ◌&&◌, eqb, ltb, leb, List, [], ◌∷◌, ◌++◌, Some, None, Option, sym, refl, ap, ◌∙◌, subst, arith}
+use Rattle.std.proofs.Common.{◌≡◌, ℕ, ◌<◌, ◌≤◌, Bool, true, false, cond, ◌&&◌, eqb, ltb, leb, List, [], ◌∷◌, ◌++◌, Some, sym, refl, ap, ◌∙◌, subst, arith}
 use Rattle.std.proofs.lemmas.List.{append_assoc}
 use Rattle.std.proofs.lemmas.Bool.Decides.{nat_tests}
 use Rattle.std.specs.List.{flat_map, AllByRecursion as All}
@@ -12,7 +12,7 @@ use Rattle.ladders.specs.declared.step.Role.TheVariants.{Loads, Joins, Opens, Cl
 use Rattle.ladders.specs.declared.step.Step.{Step}
 use Rattle.ladders.specs.Grammar.{coil_fits, position_after, next}
 use Rattle.ladders.specs.Ladders.{Whole}
-use Rattle.ladders.specs.Rungs.{Contact, Row, Store, puts, sets, resets, Rung, contact_step, joined_steps, group_steps, store_op, rung_steps, rungs_steps, ContactExists, RowExists, RungExists}
+use Rattle.ladders.specs.Rungs.{Contact, Row, Store, puts, sets, resets, Rung, joined_steps, group_steps, store_op, rungs_steps, ContactExists, RowExists, RungExists}
 use Rattle.ladders.specs.Steps.{role_of, step}
 use Rattle.ladders.proofs.Named.{chosen}
 use Rattle.ladders.proofs.Walks.{reach, first_stands, none_some}

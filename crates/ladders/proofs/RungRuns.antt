@@ -1,13 +1,13 @@
 -- The run of the steps of whole rungs does what the rungs do, one after the other.
-use Rattle.std.proofs.Common.{◌≡◌, ℕ, Bool, true, false, cond, List, [], ◌∷◌, ◌++◌, set, Some, None, sym, refl, ap, ◌∙◌}
+use Rattle.std.proofs.Common.{◌≡◌, ℕ, Bool, true, false, cond, List, [], ◌∷◌, ◌++◌, set, Some, None, refl, ap, ◌∙◌}
 use Rattle.std.proofs.lemmas.List.{append_assoc}
 use Rattle.std.specs.List.{flat_map}
 use Rattle.levels.specs.Levels.{Operations}
 use Rattle.ladders.specs.declared.flow.Flow.{Flow}
-use Rattle.ladders.specs.declared.step.Op.TheVariants.{Ld, Ldn, And, Andn, Or, Orn, Close, St, S, R}
+use Rattle.ladders.specs.declared.step.Op.TheVariants.{Ld, Ldn, And, Andn, Or, Orn, Close}
 use Rattle.ladders.specs.declared.step.Step.{Step}
 use Rattle.ladders.specs.Flows.{flow, level_at, through, ran, no_flow}
-use Rattle.ladders.specs.Rungs.{Contact, Row, Store, puts, sets, resets, Rung, contact_step, joined_steps, group_steps, store_op, rung_steps, rungs_steps, contact_level, in_series, row_level, beside, rung_result, kept_by, after_rung, after_rungs}
+use Rattle.ladders.specs.Rungs.{Contact, Row, Store, puts, sets, resets, Rung, joined_steps, group_steps, store_op, rung_steps, rungs_steps, contact_level, in_series, row_level, beside, rung_result, kept_by, after_rung, after_rungs}
 use Rattle.ladders.specs.Steps.{step}
 
 module _ {L : Type 0} (o : Operations L) where

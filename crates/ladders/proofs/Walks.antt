@@ -1,5 +1,5 @@
 -- The walk along steps from a position, free of indices.
-use Rattle.std.proofs.Common.{◌≡◌, ℕ, Bool, true, false, cond, List, [], ◌∷◌, ◌++◌, Some, None, Option, sym, refl, ap, ◌∙◌, arith}
+use Rattle.std.proofs.Common.{◌≡◌, ℕ, true, List, [], ◌∷◌, ◌++◌, Some, None, Option, refl, ap, arith}
 use Rattle.ladders.specs.declared.grammar.Position.{Position}
 use Rattle.ladders.specs.declared.grammar.Position.TheVariants.{First, Series, Group, Groups}
 use Rattle.ladders.specs.declared.step.Op.TheVariants.{Close, St}

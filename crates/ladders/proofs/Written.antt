@@ -1,16 +1,16 @@
 -- Whole rungs are walked along to the end.
-use Rattle.std.proofs.Common.{◌≡◌, ℕ, ◌<◌, ◌≤◌, Bool, true, false, cond, ◌&&◌, ltb, leb, List, [], ◌∷◌, ◌++◌, Some, None, sym, refl, ap, ◌∙◌, arith}
+use Rattle.std.proofs.Common.{◌≡◌, ℕ, ◌<◌, ◌≤◌, Bool, true, false, cond, ◌&&◌, ltb, leb, List, [], ◌∷◌, ◌++◌, Some, refl, ap, ◌∙◌, arith}
 use Rattle.std.proofs.lemmas.List.{append_assoc}
 use Rattle.std.proofs.lemmas.Bool.Decides.{nat_tests}
 use Rattle.std.specs.List.{flat_map, AllByRecursion as All}
 use Rattle.ladders.specs.declared.grammar.Position.{Position}
 use Rattle.ladders.specs.declared.grammar.Position.TheVariants.{First, Series, Group, Groups}
 use Rattle.ladders.specs.declared.step.Op.{Op}
-use Rattle.ladders.specs.declared.step.Op.TheVariants.{Ld, Ldn, And, Andn, Or, Orn, Close, St, S, R}
+use Rattle.ladders.specs.declared.step.Op.TheVariants.{Ld, Ldn, And, Andn, Or, Orn, Close}
 use Rattle.ladders.specs.declared.step.Role.{Role}
-use Rattle.ladders.specs.declared.step.Role.TheVariants.{Loads, Joins, Opens, Closes, Stores}
+use Rattle.ladders.specs.declared.step.Role.TheVariants.{Loads, Joins, Opens, Stores}
 use Rattle.ladders.specs.declared.step.Step.{Step}
-use Rattle.ladders.specs.Grammar.{coil_fits, position_after}
+use Rattle.ladders.specs.Grammar.{position_after}
 use Rattle.ladders.specs.Ladders.{Whole}
 use Rattle.ladders.specs.Rungs.{Contact, Row, Store, puts, sets, resets, Rung, contact_step, joined_steps, group_steps, store_op, rung_steps, rungs_steps, ContactExists, RowExists, RungExists}
 use Rattle.ladders.specs.Steps.{role_of, step}

@@ -1,5 +1,5 @@
 -- The coils by name and by number.
-use Rattle.std.specs.Prelude.{◌≡◌, ℕ, ◌+◌, ◌-◌, ◌<◌, Bool, true, false, cond, is_some, Some, None, Option, nat_lt}
+use Rattle.std.specs.Prelude.{◌≡◌, ℕ, ◌+◌, ◌-◌, cond, is_some, Some, None, Option, nat_lt}
 use Rattle.ladders.specs.declared.coil.Coil.{Coil}
 use Rattle.ladders.specs.declared.coil.Coil.TheVariants.{Line, Start, Place, Transition, Output}
 

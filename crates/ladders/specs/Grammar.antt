@@ -1,5 +1,5 @@
 -- Where steps fail to be a ladder, found step by step. Ladders.antt says the same by the form of rungs.
-use Rattle.std.specs.Prelude.{ℕ, ◌+◌, Bool, true, false, cond, ◌&&◌, List, [], ◌∷◌, Some, None, Ok, Err, Option, Result, ◌==◌, nat_le, nat_lt}
+use Rattle.std.specs.Prelude.{ℕ, ◌+◌, Bool, cond, ◌&&◌, List, [], ◌∷◌, Some, None, Ok, Err, Option, Result, ◌==◌, nat_le, nat_lt}
 use Rattle.ladders.specs.declared.grammar.Position.{Position}
 use Rattle.ladders.specs.declared.grammar.Position.TheVariants.{First, Series, Group, Groups}
 use Rattle.ladders.specs.declared.step.Role.{Role}

@@ -1,5 +1,5 @@
 -- Rungs by their form: which steps they are written as, and what they do to the coils.
-use Rattle.std.specs.Prelude.{ℕ, ◌<◌, ◌≤◌, Bool, true, false, cond, List, [], ◌∷◌, ◌++◌, map, slice_set}
+use Rattle.std.specs.Prelude.{ℕ, ◌<◌, ◌≤◌, Bool, cond, List, [], ◌∷◌, ◌++◌, map, slice_set}
 use Rattle.std.specs.List.{flat_map, AllByRecursion as All}
 use Rattle.levels.specs.Levels.{Operations}
 use Rattle.ladders.specs.declared.step.Op.{Op}

@@ -1,5 +1,5 @@
 -- From the layout, the counts and the filled net to the file as a whole.
-use Rattle.std.proofs.Common.{◌≡◌, ℕ, ◌+◌, ◌*◌, ◌≤◌, min, true, not, ◌||◌, eqb, ltb, List, [], ◌∷◌, ◌++◌, map, length, drop, is_ok, IfOk, Some, None, Ok, Err, Result, sym, refl, ap, ◌∙◌, subst, ap₂, arith, length-drop, length-take}
+use Rattle.std.proofs.Common.{◌≡◌, ℕ, ◌*◌, ◌≤◌, min, true, not, ◌||◌, eqb, ltb, List, [], ◌∷◌, ◌++◌, map, length, drop, is_ok, IfOk, Some, None, Ok, Err, Result, sym, refl, ap, ◌∙◌, subst, ap₂, arith, length-drop, length-take}
 use Rattle.std.proofs.lemmas.Result.{IfOk-weaker}
 use Rattle.std.proofs.lemmas.Bool.{ltb-false, le-leb, eqb-true, not-false, or_parts}
 use Rattle.std.specs.Result.{result_err}

@@ -1,5 +1,5 @@
 -- The rules on a net file: every rule that a file breaks, in the order in which they are tested.
-use Rattle.std.specs.Prelude.{ℕ, zero, suc, ◌+◌, Bool, false, not, ◌&&◌, ◌||◌, List, [], ◌++◌, length, ◌==◌, nat_le, nat_lt}
+use Rattle.std.specs.Prelude.{ℕ, zero, suc, Bool, false, not, ◌&&◌, ◌||◌, List, [], ◌++◌, length, ◌==◌, nat_le, nat_lt}
 use Rattle.bitset.specs.Sets.{within, apart, below}
 use Rattle.nets.specs.Nets.{Net, Transition as NetTransition, at}
 use Rattle.nets.specs.declared.term.Term.{Term}
