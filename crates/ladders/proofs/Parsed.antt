@@ -2,7 +2,7 @@
 use Rattle.std.proofs.Common.{◌≡◌, ℕ, ◌<◌, ◌≤◌, Bool, true, false, cond, ◌&&◌, eqb, ltb, leb, List, [], ◌∷◌, ◌++◌, Some, sym, refl, ap, ◌∙◌, subst, arith}
 use Rattle.std.proofs.lemmas.List.{append_assoc}
 use Rattle.std.proofs.lemmas.Bool.Decides.{nat_tests}
-use Rattle.std.specs.List.{flat_map, AllByRecursion as All}
+use Rattle.std.specs.List.{flat_map, AllByRecursion}
 use Rattle.ladders.specs.declared.grammar.Position.{Position}
 use Rattle.ladders.specs.declared.grammar.Position.TheVariants.{First, Series, Group, Groups}
 use Rattle.ladders.specs.declared.step.Op.{Op}
@@ -82,13 +82,13 @@ abbrev tail_steps : Tail → List Step
 tail_steps t = flat_map group_steps t.groups ++ (step (store_op t.store) t.coil ∷ rungs_steps t.rungs)
 
 abbrev TailExists : Tail → Type 0
-TailExists t = All RowExists t.groups × (32 ≤ t.coil) × (t.coil < 193) × All RungExists t.rungs
+TailExists t = AllByRecursion RowExists t.groups × (32 ≤ t.coil) × (t.coil < 193) × AllByRecursion RungExists t.rungs
 
 -- what is left from a position on
 abbrev Left : Position → List Step → Type 0
 Left First ss = Whole ss
-Left Series ss = (cs : List Contact) × (t : Tail) × All ContactExists cs × TailExists t × (ss ≡ joined_steps cs ++ tail_steps t)
-Left Group ss = (cs : List Contact) × (t : Tail) × All ContactExists cs × TailExists t × (ss ≡ joined_steps cs ++ (step Close 0 ∷ tail_steps t))
+Left Series ss = (cs : List Contact) × (t : Tail) × AllByRecursion ContactExists cs × TailExists t × (ss ≡ joined_steps cs ++ tail_steps t)
+Left Group ss = (cs : List Contact) × (t : Tail) × AllByRecursion ContactExists cs × TailExists t × (ss ≡ joined_steps cs ++ (step Close 0 ∷ tail_steps t))
 Left Groups ss = (t : Tail) × TailExists t × (ss ≡ tail_steps t)
 
 exists : (n : ℕ) → ltb n 193 ≡ true → n < 193

@@ -2,7 +2,7 @@
 use Rattle.std.proofs.Common.{◌≡◌, ℕ, ◌<◌, ◌≤◌, Bool, true, false, cond, ◌&&◌, ltb, leb, List, [], ◌∷◌, ◌++◌, Some, refl, ap, ◌∙◌, arith}
 use Rattle.std.proofs.lemmas.List.{append_assoc}
 use Rattle.std.proofs.lemmas.Bool.Decides.{nat_tests}
-use Rattle.std.specs.List.{flat_map, AllByRecursion as All}
+use Rattle.std.specs.List.{flat_map, AllByRecursion}
 use Rattle.ladders.specs.declared.grammar.Position.{Position}
 use Rattle.ladders.specs.declared.grammar.Position.TheVariants.{First, Series, Group, Groups}
 use Rattle.ladders.specs.declared.step.Op.{Op}
@@ -31,7 +31,7 @@ exists n h = grind (arith, nat_tests)
 may_store : (n : ℕ) → 32 ≤ n → n < 193 → (leb 32 n && ltb n 193) ≡ true
 may_store n l h = grind (arith, nat_tests)
 
-reach_joined : (p : Position) → position_after p Joins ≡ Some p → (cs : List Contact) → All ContactExists cs → (rest : List Step)
+reach_joined : (p : Position) → position_after p Joins ≡ Some p → (cs : List Contact) → AllByRecursion ContactExists cs → (rest : List Step)
     → reach p (joined_steps cs ++ rest) ≡ reach p rest
 reach_joined p stays [] h rest = refl
 reach_joined p stays (c ∷ cs) h rest =
@@ -47,7 +47,7 @@ reach_group p opens g h rest =
     ∙ reach_joined Group refl g.others h.1 (step Close 0 ∷ rest)
 
 reach_groups : (p : Position) → position_after p Opens ≡ Some Group → position_after p Stores ≡ Some First
-    → (gs : List Row) → All RowExists gs → (s : Store) (n : ℕ) → 32 ≤ n → n < 193 → (rest : List Step)
+    → (gs : List Row) → AllByRecursion RowExists gs → (s : Store) (n : ℕ) → 32 ≤ n → n < 193 → (rest : List Step)
     → reach p (flat_map group_steps gs ++ (step (store_op s) n ∷ rest)) ≡ reach First rest
 reach_groups p opens stores [] h s n low high rest = on_past p First (step (store_op s) n) Stores rest (role_store s) (may_store n low high) stores
 reach_groups p opens stores (g ∷ gs) h s n low high rest =
@@ -67,7 +67,7 @@ reach_rung r h rest =
     ∙ ap (reach Series) (append_assoc more stores rest)
     ∙ reach_groups Series refl refl r.groups h.1 r.store r.coil h.2 h.3 rest
 
-reach_rungs : (rs : List Rung) → All RungExists rs → reach First (rungs_steps rs) ≡ Some First
+reach_rungs : (rs : List Rung) → AllByRecursion RungExists rs → reach First (rungs_steps rs) ≡ Some First
 reach_rungs [] h = refl
 reach_rungs (r ∷ rs) h = reach_rung r h.0 (rungs_steps rs) ∙ reach_rungs rs h.1
 

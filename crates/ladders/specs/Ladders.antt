@@ -1,12 +1,12 @@
 -- What a ladder is, by the form of its rungs, and where steps fail to be one.
 use Rattle.std.specs.Prelude.{◌≡◌, ℕ, ◌+◌, ◌<◌, ◌≤◌, ◌⊎◌, List, ◌++◌, length, take, Ok, Err, Result}
-use Rattle.std.specs.List.{AllByRecursion as All}
+use Rattle.std.specs.List.{AllByRecursion}
 use Rattle.ladders.specs.declared.step.Step.{Step}
 use Rattle.ladders.specs.Rungs.{Rung, RungExists, rungs_steps}
 
 -- the steps are whole rungs with coils that exist
 abbrev pub Whole : List Step → Type 0
-Whole ss = (rs : List Rung) × All RungExists rs × (ss ≡ rungs_steps rs)
+Whole ss = (rs : List Rung) × AllByRecursion RungExists rs × (ss ≡ rungs_steps rs)
 
 -- a ladder: whole rungs, at most 2,048 steps, perhaps none
 abbrev pub IsLadder : List Step → Type 0

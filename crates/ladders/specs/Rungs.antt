@@ -1,6 +1,6 @@
 -- Rungs by their form: which steps they are written as, and what they do to the coils.
 use Rattle.std.specs.Prelude.{ℕ, ◌<◌, ◌≤◌, Bool, cond, List, [], ◌∷◌, ◌++◌, map, slice_set}
-use Rattle.std.specs.List.{flat_map, AllByRecursion as All}
+use Rattle.std.specs.List.{flat_map, AllByRecursion}
 use Rattle.levels.specs.Levels.{Operations}
 use Rattle.ladders.specs.declared.step.Op.{Op}
 use Rattle.ladders.specs.declared.step.Op.TheVariants.{Ld, Ldn, And, Andn, Or, Orn, Close, St, S, R}
@@ -69,11 +69,11 @@ ContactExists c = c.coil < 193
 
 -- the coils of a row exist
 abbrev pub RowExists : Row → Type 0
-RowExists g = ContactExists g.first × All ContactExists g.others
+RowExists g = ContactExists g.first × AllByRecursion ContactExists g.others
 
 -- the coils of a rung exist, and its result goes into no line
 abbrev pub RungExists : Rung → Type 0
-RungExists r = RowExists r.row × All RowExists r.groups × (32 ≤ r.coil) × (r.coil < 193)
+RungExists r = RowExists r.row × AllByRecursion RowExists r.groups × (32 ≤ r.coil) × (r.coil < 193)
 
 -- WHAT A RUNG DOES
 

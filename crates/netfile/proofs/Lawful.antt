@@ -1,7 +1,7 @@
 -- A net whose tables break no rule is well formed.
 use Rattle.std.proofs.Common.{◌≡◌, ℕ, zero, suc, ◌+◌, ◌<◌, ◌≤◌, Bool, true, false, cond, ◌&&◌, ◌||◌, eqb, ◌≢◌, ◌⊎◌, List, [], ◌∷◌, ◌++◌, length, get_or, sym, refl, ap, ◌∙◌, subst, ap₂, inl, inr, ⊎_elim, arith, length-append}
 use lib.Bits.{bit_or}
-use Rattle.std.specs.List.{AllByRecursion as All}
+use Rattle.std.specs.List.{AllByRecursion}
 use Rattle.std.proofs.lemmas.List.FromFn.{length-map-range_with_len}
 use Rattle.std.proofs.ByRecursion.{All-push, All-get_or}
 use Rattle.std.proofs.lemmas.Bool.{eqb-true, eqb-false, and_cases}
@@ -87,13 +87,13 @@ module _ (t l : ℕ) (ts : List ℕ) where
           omega (arith, length-append (term_list ts q k) ((term_record ts k).term ∷ []))
       go kept before false s = before
 
-  all_words : (q k : ℕ) → terms_broken t l ts k ≡ [] → All (WordsKept l) (term_list ts q k)
+  all_words : (q k : ℕ) → terms_broken t l ts k ≡ [] → AllByRecursion (WordsKept l) (term_list ts q k)
   all_words q zero e = tt
   all_words q (suc k) e =
       go (terms_kept t l ts (suc k) e k (omega arith)).words (all_words q k (both_empty (terms_broken t l ts k) _ e).0) (eqb (term_record ts k).transition q)
     where
-      go : WordsKept l (term_record ts k).term → All (WordsKept l) (term_list ts q k)
-          → (b : Bool) → All (WordsKept l) (cond b (term_list ts q k ++ (term_record ts k).term ∷ []) (term_list ts q k))
+      go : WordsKept l (term_record ts k).term → AllByRecursion (WordsKept l) (term_list ts q k)
+          → (b : Bool) → AllByRecursion (WordsKept l) (cond b (term_list ts q k ++ (term_record ts k).term ∷ []) (term_list ts q k))
       go kept before true = All-push (WordsKept l) (term_list ts q k) (term_record ts k).term before kept
       go kept before false = before
 
