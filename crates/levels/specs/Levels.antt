@@ -1,4 +1,5 @@
 -- What any kind of level is: its operations, and the laws that tie them to what levels admit.
+use Rattle.std.proofs.Common.{rules}
 use Rattle.std.specs.Prelude.{◌≡◌, Bool, true, false, not, ◌&&◌, ◌||◌, Some, None, Option}
 
 -- the operations on levels of the kind L
@@ -43,3 +44,7 @@ the_only p = one_of (p false) (p true)
 -- the operations on plain levels, of which each admits itself alone
 abbrev pub plain_operations : Operations Bool
 plain_operations = record { low = false; high = true; both = ◌&&◌; either = ◌||◌; inverse = not }
+
+-- plain levels keep the laws
+pub plain_laws : LevelLaws same plain_operations
+plain_laws = search rules

@@ -1,6 +1,7 @@
 -- Three-valued levels.
+use Rattle.std.proofs.Common.{rules}
 use Rattle.std.specs.Prelude.{Bool, true, false}
-use Rattle.levels.specs.Levels.{Operations, same}
+use Rattle.levels.specs.Levels.{Operations, LevelLaws, same}
 use Rattle.levels.specs.declared.ternary.Ternary.{Ternary}
 use Rattle.levels.specs.declared.ternary.Ternary.TheVariants.{Low, High, Unknown}
 
@@ -35,3 +36,7 @@ ternary_inverse Unknown = Unknown
 -- the operations on three-valued levels
 abbrev pub ternary_operations : Operations Ternary
 ternary_operations = record { low = Low; high = High; both = ternary_both; either = ternary_either; inverse = ternary_inverse }
+
+-- three-valued levels keep the laws
+pub ternary_laws : LevelLaws ternary_admits ternary_operations
+ternary_laws = search rules

@@ -1,6 +1,5 @@
 // Plain levels: low is `false`, high is `true`.
-ghost use Rattle.levels.specs.Levels.{same, plain_operations};
-ghost use Rattle.std.proofs.Common.{rules};
+ghost use Rattle.levels.specs.Levels.{same, plain_operations, plain_laws};
 
 use crate::level::Level;
 
@@ -9,7 +8,7 @@ impl Level for bool {
 
     ghost operations = { plain_operations };
 
-    ghost lawful = { Prim.search rules };
+    ghost lawful = { plain_laws };
 
     fn low() -> bool {
         false

@@ -1,6 +1,5 @@
 // Three-valued levels: low, high, or unknown, which may be either.
-ghost use Rattle.levels.specs.Ternaries.{ternary_admits, ternary_operations};
-ghost use Rattle.std.proofs.Common.{rules};
+ghost use Rattle.levels.specs.Ternaries.{ternary_admits, ternary_operations, ternary_laws};
 
 use crate::level::Level;
 
@@ -16,7 +15,7 @@ impl Level for Ternary {
 
     ghost operations = { ternary_operations };
 
-    ghost lawful = { Prim.search rules };
+    ghost lawful = { ternary_laws };
 
     fn low() -> Ternary {
         Ternary::Low
