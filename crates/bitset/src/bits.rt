@@ -1,7 +1,7 @@
 // Words of 64 bits as sets of numbers: what all sets of the code are made of.
 ghost use Rattle.std.specs.Prelude.{◌≡◌, min, not, is_some, ◌==◌};
 ghost use Rattle.bitset.specs.Places.{with_place, lowest_in, how_many};
-ghost use Rattle.bitset.specs.Sets.{has as has_member, within as is_Within, apart as is_apart, without as taken_away, below as all_below};
+ghost use Rattle.bitset.specs.Sets.{has as has_member, within as is_within, apart as is_apart, without as taken_away, below as all_below};
 
 // Whether number `n` is in `word`; none above 63 is.
 pub(crate) fn has(word: u64, n: usize) -> bool
@@ -12,7 +12,7 @@ pub(crate) fn has(word: u64, n: usize) -> bool
 
 // Whether each number in `part` is in `whole`.
 pub(crate) fn within(part: u64, whole: u64) -> bool
-    ensures { result ≡ is_Within part whole }
+    ensures { result ≡ is_within part whole }
 {
     part & whole == part
 }

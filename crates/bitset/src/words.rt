@@ -1,6 +1,6 @@
 // Words of 32 bits as sets of lines or of outputs.
 ghost use Rattle.std.specs.Prelude.{◌≡◌, min};
-ghost use Rattle.bitset.specs.Sets.{has as has_member, within as is_Within, apart as is_apart, below as all_below};
+ghost use Rattle.bitset.specs.Sets.{has as has_member, within as is_within, apart as is_apart, below as all_below};
 
 use crate::bits;
 
@@ -13,7 +13,7 @@ pub fn has(word: u32, n: usize) -> bool
 
 // Whether each number in `part` is in `whole`.
 pub fn within(part: u32, whole: u32) -> bool
-    ensures { result ≡ is_Within part whole }
+    ensures { result ≡ is_within part whole }
 {
     bits::within(u64::from(part), u64::from(whole))
 }

@@ -17,8 +17,8 @@ pub returns-in_default : goal.returns-in_default
 returns-in_default c =
     let n = net_of c.args.net.now in
     let e = sym c.if-not-has_places.ensures in
-    let first = sym (unknown_transition n _ _ _ e c.in_default.ensures) in
     let laws = game_laws n (places_in c.args.marking) c.args.lines c.args.number (λ f l. absurd (omega (arith, c.in_default.ensures))) in
+    let first = sym (unknown_transition n _ _ _ e c.in_default.ensures) in
     record { refused = first; accepted = stopped _ _ first ∙ laws.granted; granted = tt; laws = laws }
 
 pub returns-in-Some-lowest : goal.returns-in-Some-lowest
