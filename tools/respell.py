@@ -22,7 +22,6 @@ KEPT = {
     'map-replicate', 'take-set', 'total-append',
 }
 WORD = r"[A-Za-z_'₀-₉ℕ0-9·≤<≡+*-]"
-DECLARED = re.compile(r"^\s*(?:(?:abbrev|unfoldable|pub|record|data|unfold) )*([A-Za-z][^\s(){}:.;,]*)(?:\s+.*)?\s+:(?:\s|$)")
 HEAD = re.compile(r"^\s*(?:pub )?(?:record|data) ([A-Za-z][^\s(){}:.;,]*)")
 USE = re.compile(r"^\s*(?:pub )?(?:ghost )?(?:pub )?use ([^{}]*?)(?:\.\{([^}]*)\})?(?: as (\S+?))?;?$")
 TOKEN = re.compile(r"(?<!" + WORD + r")([A-Za-z][A-Za-z0-9_'₀-₉]*(?:-[A-Za-z0-9_'₀-₉]+)+)(?!" + WORD + r")")
@@ -116,7 +115,7 @@ def main():
         print('respell:', line)
     if '--list' in sys.argv:
         return
-    if any('fall together' in line or 'library' in line for line in wrong) and '--anyway' not in sys.argv:
+    if wrong:
         sys.exit(1)
 
     def change(part):

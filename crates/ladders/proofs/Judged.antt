@@ -9,17 +9,14 @@ use Rattle.ladders.specs.Grammar.{next, next_at, ended, onward, from, grammar}
 use Rattle.ladders.specs.Ladders.{Whole, IsLadder, Begun, FailsAt, Judged}
 use Rattle.ladders.proofs.Named.{chosen, went_on}
 use Rattle.ladders.proofs.Parsed.{reached_whole}
-use Rattle.ladders.proofs.Walks.{on_from, reach, none_some, reach_append, first_stands, ending, ending_reaches}
+use Rattle.ladders.proofs.Walks.{on_from, reach, reach_append, first_stands, ending, ending_reaches}
 use Rattle.ladders.proofs.Written.{whole_reaches}
-
-ok_err : (i : ℕ) → ◌≡◌ {A = Result (Unit {0}) ℕ} (Ok tt) (Err i) → ⊥
-ok_err i e = let z : ◌≡◌ {A = ℕ} 0 1 = cc in omega arith
 
 ended_ok : (p : Position) (i : ℕ) → ended p i ≡ Ok tt → p ≡ First
 ended_ok First i e = refl
-ended_ok Series i e = absurd (ok_err i (sym e))
-ended_ok Group i e = absurd (ok_err i (sym e))
-ended_ok Groups i e = absurd (ok_err i (sym e))
+ended_ok Series i e = cc
+ended_ok Group i e = cc
+ended_ok Groups i e = cc
 
 below_most : (i : ℕ) → ltb i 2048 ≡ true → i < 2048
 below_most i e = grind (arith, nat_tests)
@@ -65,10 +62,10 @@ cut_off p i k mid e =
     (0, omega arith, record { within = omega arith; few = λ h. omega arith; at = p; before = refl; here = inl (refl, λ d. mid (cc)) })
 
 failed_none : (p : Position) (i k : ℕ) → ended p i ≡ Err k → FailedFrom p i [] k
-failed_none First i k e = absurd (ok_err k e)
-failed_none Series i k e = cut_off Series i k (λ d. let z : ◌≡◌ {A = ℕ} 0 1 = cc in omega arith) e
-failed_none Group i k e = cut_off Group i k (λ d. let z : ◌≡◌ {A = ℕ} 0 1 = cc in omega arith) e
-failed_none Groups i k e = cut_off Groups i k (λ d. let z : ◌≡◌ {A = ℕ} 0 1 = cc in omega arith) e
+failed_none First i k e = cc
+failed_none Series i k e = cut_off Series i k (λ d. cc) e
+failed_none Group i k e = cut_off Group i k (λ d. cc) e
+failed_none Groups i k e = cut_off Groups i k (λ d. cc) e
 
 -- a step that cannot stand: the 2,049th, or one that is out of place
 stopped : (b : Bool) (i : ℕ) (o : Option Position) → ltb i 2048 ≡ b → cond b o None ≡ None → (2048 ≤ i) ⊎ (o ≡ None)
@@ -129,7 +126,7 @@ begun ss q e =
 -- and with no others
 not_begun : (ss : List Step) → reach First ss ≡ None → Begun ss → ⊥
 not_begun ss e (rest, w) =
-    none_some First (sym (ap (λ (o : Option Position). on_from o (λ v. reach v rest)) e) ∙ sym (reach_append ss rest First) ∙ whole_reaches (ss ++ rest) w)
+    let both : None ≡ Some First = sym (ap (λ (o : Option Position). on_from o (λ v. reach v rest)) e) ∙ sym (reach_append ss rest First) ∙ whole_reaches (ss ++ rest) w in cc
 
 accepted : (ss : List Step) → grammar ss ≡ Ok tt → IsLadder ss
 accepted ss e = (reached_whole ss (ok_reaches ss First 0 e), (let l = ok_short ss First 0 e (omega arith) in omega arith))

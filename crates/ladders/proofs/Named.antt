@@ -19,12 +19,12 @@ below Stores n e = grind (arith, nat_tests)
 -- a choice that is something was made
 pub chosen : {X : Type 0} (b : Bool) (o : Option X) (x : X) → cond b o None ≡ Some x → (b ≡ true) × (o ≡ Some x)
 chosen true o x e = (refl, e)
-chosen false o x e = let z : ◌≡◌ {A = ℕ} 0 1 = cc in let no : ⊥ = omega arith in absurd no
+chosen false o x e = cc
 
 -- where the walk goes on, the step stands
 pub went_on : (o : Option Position) (i : ℕ) (rest : Position → Result (Unit {0}) ℕ) → onward o i rest ≡ Ok tt → (q : Position) × ((o ≡ Some q) × (rest q ≡ Ok tt))
 went_on (Some q) i rest e = (q, (refl, e))
-went_on None i rest e = let z : ◌≡◌ {A = ℕ} 0 1 = cc in let no : ⊥ = omega arith in absurd no
+went_on None i rest e = cc
 
 named_below : (p : Position) (i : ℕ) (ss : List Step) → from p i ss ≡ Ok tt → (k : ℕ) (d : Step) → k < length ss → (get_or ss k d).coil < 193
 named_below p i [] e k d h = absurd (not-suc-le-zero h)

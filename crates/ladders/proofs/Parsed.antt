@@ -15,7 +15,7 @@ use Rattle.ladders.specs.Ladders.{Whole}
 use Rattle.ladders.specs.Rungs.{Contact, Row, Store, puts, sets, resets, Rung, joined_steps, group_steps, store_op, rungs_steps, ContactExists, RowExists, RungExists}
 use Rattle.ladders.specs.Steps.{role_of, step}
 use Rattle.ladders.proofs.Named.{chosen}
-use Rattle.ladders.proofs.Walks.{reach, first_stands, none_some}
+use Rattle.ladders.proofs.Walks.{reach, first_stands}
 
 -- whether an operation takes the inverse of its coil
 abbrev inverts : Op → Bool
@@ -156,24 +156,24 @@ moved p q ss e h = let same : q ≡ p = cc in subst (λ (v : Position). Left v s
 left_more : (p : Position) (r : Role) (s : Step) (ss : List Step) → role_of s.op ≡ r → coil_fits r s.coil ≡ true
     → (q : Position) → position_after p r ≡ Some q → Left q ss → Left p (s ∷ ss)
 left_more First Loads s ss e fits q a h = loaded s ss e fits (moved Series q ss a h)
-left_more First Joins s ss e fits q a h = absurd (none_some q a)
-left_more First Opens s ss e fits q a h = absurd (none_some q a)
-left_more First Closes s ss e fits q a h = absurd (none_some q a)
-left_more First Stores s ss e fits q a h = absurd (none_some q a)
-left_more Series Loads s ss e fits q a h = absurd (none_some q a)
+left_more First Joins s ss e fits q a h = cc
+left_more First Opens s ss e fits q a h = cc
+left_more First Closes s ss e fits q a h = cc
+left_more First Stores s ss e fits q a h = cc
+left_more Series Loads s ss e fits q a h = cc
 left_more Series Joins s ss e fits q a h = joined_in_series s ss e fits (moved Series q ss a h)
 left_more Series Opens s ss e fits q a h = no_more_joined (s ∷ ss) (opened s ss e fits (moved Group q ss a h))
-left_more Series Closes s ss e fits q a h = absurd (none_some q a)
+left_more Series Closes s ss e fits q a h = cc
 left_more Series Stores s ss e fits q a h = no_more_joined (s ∷ ss) (stored s ss e fits (moved First q ss a h))
-left_more Group Loads s ss e fits q a h = absurd (none_some q a)
+left_more Group Loads s ss e fits q a h = cc
 left_more Group Joins s ss e fits q a h = joined_in_group s ss e fits (moved Group q ss a h)
-left_more Group Opens s ss e fits q a h = absurd (none_some q a)
+left_more Group Opens s ss e fits q a h = cc
 left_more Group Closes s ss e fits q a h = closed s ss e (is_zero s.coil fits) (moved Groups q ss a h)
-left_more Group Stores s ss e fits q a h = absurd (none_some q a)
-left_more Groups Loads s ss e fits q a h = absurd (none_some q a)
-left_more Groups Joins s ss e fits q a h = absurd (none_some q a)
+left_more Group Stores s ss e fits q a h = cc
+left_more Groups Loads s ss e fits q a h = cc
+left_more Groups Joins s ss e fits q a h = cc
 left_more Groups Opens s ss e fits q a h = opened s ss e fits (moved Group q ss a h)
-left_more Groups Closes s ss e fits q a h = absurd (none_some q a)
+left_more Groups Closes s ss e fits q a h = cc
 left_more Groups Stores s ss e fits q a h = stored s ss e fits (moved First q ss a h)
 
 -- where the steps end, the rung has ended

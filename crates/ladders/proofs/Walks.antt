@@ -1,5 +1,5 @@
 -- The walk along steps from a position, free of indices.
-use Rattle.std.proofs.Common.{◌≡◌, ℕ, true, List, [], ◌∷◌, ◌++◌, Some, None, Option, refl, ap, arith}
+use Rattle.std.proofs.Common.{◌≡◌, true, List, [], ◌∷◌, ◌++◌, Some, None, Option, refl, ap}
 use Rattle.ladders.specs.declared.grammar.Position.{Position}
 use Rattle.ladders.specs.declared.grammar.Position.TheVariants.{First, Series, Group, Groups}
 use Rattle.ladders.specs.declared.step.Op.TheVariants.{Close, St}
@@ -18,10 +18,6 @@ abbrev pub reach : Position → List Step → Option Position
 reach p [] = Some p
 reach p (s ∷ ss) = on_from (next p s) (λ q. reach q ss)
 
--- nothing is something
-pub none_some : {X : Type 0} (x : X) → None ≡ Some x → ⊥
-none_some x e = let z : ◌≡◌ {A = ℕ} 0 1 = cc in omega arith
-
 -- steps after steps
 pub reach_append : (ss ts : List Step) (p : Position) → reach p (ss ++ ts) ≡ on_from (reach p ss) (λ q. reach q ts)
 reach_append [] ts p = refl
@@ -34,7 +30,7 @@ reach_append (s ∷ ss) ts p = go (next p s) (reach_append ss ts)
 
 -- where the walk comes to an end, its first step stands
 pub first_stands : (o : Option Position) (f : Position → Option Position) (e : Position) → on_from o f ≡ Some e → (q : Position) × ((o ≡ Some q) × (f q ≡ Some e))
-first_stands None f e h = absurd (none_some e h)
+first_stands None f e h = cc
 first_stands (Some q) f e h = (q, (refl, h))
 
 -- a step of a role that may stand, with a coil that fits

@@ -2,6 +2,7 @@
 use Rattle.std.specs.Prelude.{◌≡◌, ℕ, ◌+◌, ◌<◌, ◌≤◌, ◌⊎◌, List, ◌++◌, length, take, Ok, Err, Result}
 use Rattle.std.specs.List.{AllByRecursion}
 use Rattle.ladders.specs.declared.step.Step.{Step}
+use Rattle.ladders.specs.Grammar.{grammar}
 use Rattle.ladders.specs.Rungs.{Rung, RungExists, rungs_steps}
 
 -- the steps are whole rungs with coils that exist
@@ -30,3 +31,7 @@ pub record Judged (ss : List Step) (r : Result (Unit {0}) ℕ) : Type 0 where
   pub each_accepted : IsLadder ss → r ≡ Ok tt
   pub refused : (i : ℕ) → r ≡ Err i → FailsAt ss i
   pub each_refused : (i : ℕ) → FailsAt ss i → r ≡ Err i
+
+-- the grammar tells of any steps whether they are a ladder, and where they fail to be one
+abbrev pub GrammarTells : Type 0
+GrammarTells = (ss : List Step) → Judged ss (grammar ss)

@@ -1,11 +1,11 @@
 -- Rungs by their form: which steps they are written as, and what they do to the coils.
-use Rattle.std.specs.Prelude.{ℕ, ◌<◌, ◌≤◌, Bool, cond, List, [], ◌∷◌, ◌++◌, map, slice_set}
+use Rattle.std.specs.Prelude.{◌≡◌, ℕ, ◌<◌, ◌≤◌, Bool, cond, List, [], ◌∷◌, ◌++◌, map, slice_set}
 use Rattle.std.specs.List.{flat_map, AllByRecursion}
 use Rattle.levels.specs.Levels.{Operations}
 use Rattle.ladders.specs.declared.step.Op.{Op}
 use Rattle.ladders.specs.declared.step.Op.TheVariants.{Ld, Ldn, And, Andn, Or, Orn, Close, St, S, R}
 use Rattle.ladders.specs.declared.step.Step.{Step}
-use Rattle.ladders.specs.Flows.{level_at}
+use Rattle.ladders.specs.Flows.{level_at, ran}
 use Rattle.ladders.specs.Steps.{step}
 
 -- THE FORM OF A RUNG
@@ -113,3 +113,7 @@ after_rung o r xs = slice_set xs r.coil (kept_by o r.store (rung_result o xs r) 
 abbrev pub after_rungs : {L : Type 0} → Operations L → List Rung → List L → List L
 after_rungs o [] xs = xs
 after_rungs o (r ∷ rs) xs = after_rungs o rs (after_rung o r xs)
+
+-- the run of the steps of any rungs does what the rungs do, one after the other
+abbrev pub RungsInTurn : {L : Type 0} → Operations L → Type 0
+RungsInTurn {L} o = (rs : List Rung) (xs : List L) → ran o (rungs_steps rs) xs ≡ after_rungs o rs xs

@@ -6,14 +6,14 @@ use crate::step::Op;
 use levels::Level;
 
 #[derive(Clone, Copy)]
-pub struct Flow<L> {
-    pub result: L,
-    pub group: Option<L>,
+pub(crate) struct Flow<L> {
+    pub(crate) result: L,
+    pub(crate) group: Option<L>,
 }
 
 impl<L: Level> Flow<L> {
     // Before the first rung.
-    pub fn none() -> Flow<L>
+    pub(crate) fn none() -> Flow<L>
         ensures { result ≡ no_flow L.operations }
     {
         Flow {

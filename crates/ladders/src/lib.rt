@@ -9,7 +9,6 @@ mod run;
 mod step;
 
 pub use coil::{COILS, Coil};
-pub use flow::Flow;
 pub use grammar::MAX_STEPS;
 pub use laws::ladder_laws_hold;
 pub use step::{Op, Role, Step};

@@ -8,13 +8,13 @@ use crate::step::{Op, Role, Step};
 use levels::Level;
 
 // What a storing operation leaves on a coil at level `x`.
-fn stored_level<L: Level>(op: Op, res: L, x: L) -> L
-    ensures { result ≡ stored L.operations op res x }
+fn stored_level<L: Level>(op: Op, outcome: L, x: L) -> L
+    ensures { result ≡ stored L.operations op outcome x }
 {
     match op {
-        Op::St => res,
-        Op::S => x.either(res),
-        Op::R => x.both(res.inverse()),
+        Op::St => outcome,
+        Op::S => x.either(outcome),
+        Op::R => x.both(outcome.inverse()),
         _ => x,
     }
 }
