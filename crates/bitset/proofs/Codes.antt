@@ -1,5 +1,5 @@
 -- What the code's shifts and masks say of the sets.
-use Rattle.std.proofs.Common.{◌≡◌, ℕ, ◌-◌, ◌*◌, ◌/◌, ◌%◌, ◌^◌, ◌<◌, ◌≤◌, min, eqb, ap, ◌∙◌, arith}
+use Rattle.std.proofs.Common.{◌≡◌, ℕ, ◌-◌, ◌*◌, ◌/◌, ◌%◌, ◌^◌, ◌<◌, ◌≤◌, min, eqb, ap, ◌∙◌, arith, pow_pos, pow_mono}
 use lib.Bits.{bit_and, and_mask}
 use Rattle.std.proofs.lemmas.Nat.{one_shl}
 use Rattle.bitset.specs.Sets.{has, only, below}
@@ -25,3 +25,8 @@ pub below_all : (k n : ℕ) → k ≤ n → 2 ^ k - 1 ≡ below (min n k)
 unfolding below
 below_all k n h =
     let m : k ≡ min n k = omega arith in ap (λ (x : ℕ). 2 ^ x - 1) m
+
+-- so many numbers fit so many bits
+pub below_fits : (k n : ℕ) → n ≤ k → below n < 2 ^ k
+unfolding below
+below_fits k n h = let p : 2 ^ n ≤ 2 ^ k = pow_mono h in let q : 0 < 2 ^ k = pow_pos k in omega arith

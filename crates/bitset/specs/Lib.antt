@@ -1,5 +1,4 @@
 pub mod Lists
 pub mod Sets
 pub mod Laws
-pub mod Places
-pub mod Transitions
+pub mod Room

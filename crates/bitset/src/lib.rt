@@ -1,16 +1,14 @@
-// Words as sets of numbers, and the set of places.
+// Words as sets of numbers, and the sets of places and of transitions.
 #![tactic(auto)]
 
 ghost use Rattle.std.specs.Prelude.{◌≡◌, true};
 ghost use Rattle.bitset.specs.Laws.{SetLaws};
 
-mod bits;
-mod place_set;
-mod transition_set;
-pub mod words;
+mod set;
+mod word;
 
-pub use place_set::PlaceSet;
-pub use transition_set::TransitionSet;
+pub use set::{PlaceSet, Places, Set, TransitionSet, Transitions};
+pub use word::Word;
 
 // The laws of words as sets, over every width; the contract is the theorem.
 pub fn set_laws_hold() -> bool

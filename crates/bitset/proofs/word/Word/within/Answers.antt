@@ -1,7 +1,7 @@
 use Rattle.std.proofs.Common.{refl}
 use Rattle.bitset.specs.Sets.{within}
-use Rattle.bitset.proofs.bits.within.Goals as goal
+use Rattle.bitset.proofs.word.Word.within.Goals as goal
 
 pub returns : goal.returns
 unfolding within
-returns c = refl
+returns g c = rw (c.wide.ensures, c.wide-part.ensures) refl

@@ -1,6 +1,6 @@
 use Rattle.std.proofs.Common.{arith}
 use Rattle.bitset.proofs.Codes.{below_shl, below_all}
-use Rattle.bitset.proofs.bits.below.Goals as goal
+use Rattle.bitset.proofs.word.U64Word.below.Goals as goal
 
 pub returns-then-count-lt64 : goal.returns-then-count-lt64
 returns-then-count-lt64 c = below_shl 64 c.args.count c.if-count-lt64.true

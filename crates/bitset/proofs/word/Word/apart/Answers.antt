@@ -1,7 +1,7 @@
 use Rattle.std.proofs.Common.{refl}
 use Rattle.bitset.specs.Sets.{apart}
-use Rattle.bitset.proofs.bits.apart.Goals as goal
+use Rattle.bitset.proofs.word.Word.apart.Goals as goal
 
 pub returns : goal.returns
 unfolding apart
-returns c = refl
+returns g c = rw (c.wide.ensures, c.wide-2.ensures) refl
