@@ -2,7 +2,7 @@
 use Rattle.std.specs.Prelude.{◌≡◌, ℕ, Bool, true, false, not, ◌&&◌, ◌||◌, ◌↔◌, List, [], ◌∷◌, bit_and, bit_or}
 use Rattle.bitset.specs.Sets.{within, apart, without}
 use Rattle.nets.specs.declared.term.Term.{Term}
-use Rattle.nets.specs.Nets.{Transition}
+use Rattle.nets.specs.declared.transition.Transition.{Transition}
 
 -- a term holds when each line of its high word is high and each of its low word low
 abbrev pub term_holds : ℕ → Term → Bool

@@ -1,3 +1,4 @@
+pub mod FixedVecs
 pub mod Ranges
 pub mod Kinds
 pub mod Nets

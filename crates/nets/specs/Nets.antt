@@ -1,14 +1,6 @@
 -- A signal interpreted Petri net. A set of places, lines or outputs is a word: number n is in it where bit n is 1.
-use Rattle.std.specs.Prelude.{ℕ, List, [], slice_index_or}
-use Rattle.nets.specs.declared.term.Term.{Term}
-
--- the four sets of places that its arcs join it to, and the terms of its condition in file order
-pub record Transition : Type 0 where
-  pub consumes : ℕ
-  pub produces : ℕ
-  pub tests : ℕ
-  pub inhibits : ℕ
-  pub terms : List Term
+use Rattle.std.specs.Prelude.{ℕ, ◌≤◌, List, [], slice_index_or}
+use Rattle.nets.specs.declared.transition.Transition.{Transition}
 
 -- how many places, lines and outputs it has; the start places; what each place raises; its transitions
 pub record Net : Type 0 where
@@ -18,6 +10,13 @@ pub record Net : Type 0 where
   pub start : ℕ
   pub raises : List ℕ
   pub transitions : List Transition
+
+-- counts are in their ranges
+pub record CountsInRange (places transitions lines outputs : ℕ) : Type 0 where
+  pub some_places : (1 ≤ places) × (places ≤ 64)
+  pub some_transitions : (1 ≤ transitions) × (transitions ≤ 64)
+  pub some_lines : (1 ≤ lines) × (lines ≤ 32)
+  pub some_outputs : (1 ≤ outputs) × (outputs ≤ 32)
 
 -- a transition with no arc and no term
 abbrev pub unconnected : Transition

@@ -1,41 +1,13 @@
--- The net that the code's structs stand for, and what the methods that fill them do to it.
-use Rattle.std.specs.Prelude.{ℕ, Bool, cond, ◌&&◌, List, [], ◌∷◌, ◌++◌, map, length, take, replicate, bit_or, nat_lt, slice_set}
-use Rattle.bitset.specs.Places.{places_in, with_place}
+-- What the calls that fill a net do to it.
+use Rattle.std.specs.Prelude.{ℕ, Bool, cond, ◌&&◌, length, replicate, bit_or, nat_lt, slice_set}
+use Rattle.bitset.specs.Room.{with_member}
 use Rattle.nets.specs.declared.arc_kind.ArcKind.{ArcKind}
 use Rattle.nets.specs.declared.arc_kind.ArcKind.TheVariants.{Consumes, Produces, Tests, Inhibits}
 use Rattle.nets.specs.declared.counts.Counts.{Counts}
-use Rattle.nets.specs.declared.net.Net.{Net as StoredNet}
 use Rattle.nets.specs.declared.term.Term.{Term}
-use Rattle.nets.specs.declared.terms.Terms.{Terms}
-use Rattle.nets.specs.declared.transition.Transition.{Transition as StoredTransition}
-use Rattle.nets.specs.Nets.{Net, Transition, unconnected, at}
-
--- the terms that are held
-abbrev pub terms_in : Terms → List Term
-terms_in s = take s.count s.items
-
--- the transition that is held
-abbrev pub transition_of : StoredTransition → Transition
-transition_of t =
-    record {
-      consumes = places_in t.consumes;
-      produces = places_in t.produces;
-      tests = places_in t.tests;
-      inhibits = places_in t.inhibits;
-      terms = terms_in t.terms;
-    }
-
--- the net that is held: of each array as many as the counts say
-abbrev pub net_of : StoredNet → Net
-net_of n =
-    record {
-      places = n.counts.places;
-      lines = n.counts.lines;
-      outputs = n.counts.outputs;
-      start = places_in n.start;
-      raises = take n.counts.places n.raises;
-      transitions = map transition_of (take n.counts.transitions n.transitions);
-    }
+use Rattle.nets.specs.declared.transition.Transition.{Transition}
+use Rattle.nets.specs.FixedVecs.{pushed}
+use Rattle.nets.specs.Nets.{Net, unconnected, at}
 
 -- a net of these counts with no start place, output raised, arc or term
 abbrev pub blank_net : Counts → Net
@@ -49,16 +21,12 @@ blank_net c =
       transitions = replicate c.transitions unconnected;
     }
 
--- one term more, where there are fewer than four
-abbrev pub with_term : List Term → Term → List Term
-with_term ts t = cond (nat_lt (length ts) 4) (ts ++ t ∷ []) ts
-
 -- the transition with an arc of this kind to place p
 abbrev pub with_arc : Transition → ArcKind → ℕ → Transition
-with_arc t Consumes p = record { consumes = with_place t.consumes p; produces = t.produces; tests = t.tests; inhibits = t.inhibits; terms = t.terms }
-with_arc t Produces p = record { consumes = t.consumes; produces = with_place t.produces p; tests = t.tests; inhibits = t.inhibits; terms = t.terms }
-with_arc t Tests p = record { consumes = t.consumes; produces = t.produces; tests = with_place t.tests p; inhibits = t.inhibits; terms = t.terms }
-with_arc t Inhibits p = record { consumes = t.consumes; produces = t.produces; tests = t.tests; inhibits = with_place t.inhibits p; terms = t.terms }
+with_arc t Consumes p = record { consumes = with_member t.consumes p; produces = t.produces; tests = t.tests; inhibits = t.inhibits; terms = t.terms }
+with_arc t Produces p = record { consumes = t.consumes; produces = with_member t.produces p; tests = t.tests; inhibits = t.inhibits; terms = t.terms }
+with_arc t Tests p = record { consumes = t.consumes; produces = t.produces; tests = with_member t.tests p; inhibits = t.inhibits; terms = t.terms }
+with_arc t Inhibits p = record { consumes = t.consumes; produces = t.produces; tests = t.tests; inhibits = with_member t.inhibits p; terms = t.terms }
 
 -- the places to which an arc joins the transition
 abbrev pub joined_places : Transition → ℕ
@@ -66,7 +34,7 @@ joined_places t = bit_or (bit_or t.consumes t.produces) (bit_or t.tests t.inhibi
 
 -- the transition with one term more in its condition
 abbrev pub given_term : Transition → Term → Transition
-given_term t x = record { consumes = t.consumes; produces = t.produces; tests = t.tests; inhibits = t.inhibits; terms = with_term t.terms x }
+given_term t x = record { consumes = t.consumes; produces = t.produces; tests = t.tests; inhibits = t.inhibits; terms = pushed 4 t.terms x }
 
 -- the net with transition t put in
 abbrev pub with_transition : Net → ℕ → Transition → Net
@@ -96,7 +64,7 @@ with_raise n p starts word =
       places = n.places;
       lines = n.lines;
       outputs = n.outputs;
-      start = cond starts (with_place n.start p) n.start;
+      start = cond starts (with_member n.start p) n.start;
       raises = slice_set n.raises p word;
       transitions = n.transitions;
     }

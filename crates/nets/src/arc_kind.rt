@@ -1,6 +1,5 @@
 // What an arc does between its transition and its place.
-ghost use Rattle.std.specs.Prelude.{◌≡◌};
-ghost use Rattle.nets.specs.Kinds.{kind_numbered};
+ghost use Rattle.nets.specs.Kinds.{Decodes};
 
 #[derive(Clone, Copy)]
 pub enum ArcKind {
@@ -10,17 +9,23 @@ pub enum ArcKind {
     Inhibits,
 }
 
-impl ArcKind {
-    // The kind that a file writes as this number.
-    pub fn from_number(number: u8) -> Option<ArcKind>
-        ensures { result ≡ kind_numbered number }
-    {
+// A number that is no kind's.
+#[derive(Clone, Copy)]
+pub struct UnknownKind(pub u8);
+
+// The kind that a file writes as this number.
+impl TryFrom<u8> for ArcKind {
+    type Error = UnknownKind;
+
+    ghost try_from_gives = { Decodes };
+
+    fn try_from(number: u8) -> Result<ArcKind, UnknownKind> {
         match number {
-            0 => Some(ArcKind::Consumes),
-            1 => Some(ArcKind::Produces),
-            2 => Some(ArcKind::Tests),
-            3 => Some(ArcKind::Inhibits),
-            _ => None,
+            0 => Ok(ArcKind::Consumes),
+            1 => Ok(ArcKind::Produces),
+            2 => Ok(ArcKind::Tests),
+            3 => Ok(ArcKind::Inhibits),
+            _ => Err(UnknownKind(number)),
         }
     }
 }

@@ -1,7 +1,10 @@
 // How many places, transitions, lines and outputs a net has, each in its range.
-ghost use Rattle.std.specs.Prelude.{◌≤◌};
+ghost use Rattle.std.specs.Prelude.{◌≡◌, ◌≤◌, IfOk};
+ghost use Rattle.bitset.specs.Lists.{first_of};
+ghost use Rattle.nets.specs.Ranges.{out_of_range};
+ghost use Rattle.std.specs.Result.{result_err};
 
-mod methods;
+use crate::quantity::Quantity;
 
 #[derive(Clone, Copy)]
 pub struct Counts {
@@ -13,4 +16,36 @@ pub struct Counts {
     ghost transitions_in_range: { (1 ≤ transitions) × (transitions ≤ 64) },
     ghost lines_in_range: { (1 ≤ lines) × (lines ≤ 32) },
     ghost outputs_in_range: { (1 ≤ outputs) × (outputs ≤ 32) },
+}
+
+impl Counts {
+    // The counts, where each is in its range; else the first quantity that is not.
+    pub fn new(
+        places: usize,
+        transitions: usize,
+        lines: usize,
+        outputs: usize,
+    ) -> Result<Counts, Quantity>
+        ensures refused { result_err result ≡ first_of (out_of_range places transitions lines outputs) }
+        ensures granted { IfOk result (λ c. (c.places ≡ places) × (c.transitions ≡ transitions) × (c.lines ≡ lines) × (c.outputs ≡ outputs)) }
+    {
+        if !Quantity::Places.admits(places) {
+            return Err(Quantity::Places);
+        }
+        if !Quantity::Transitions.admits(transitions) {
+            return Err(Quantity::Transitions);
+        }
+        if !Quantity::Lines.admits(lines) {
+            return Err(Quantity::Lines);
+        }
+        if !Quantity::Outputs.admits(outputs) {
+            return Err(Quantity::Outputs);
+        }
+        Ok(Counts {
+            places,
+            transitions,
+            lines,
+            outputs,
+        })
+    }
 }

@@ -4,19 +4,19 @@
 mod arc_kind;
 mod clash;
 mod counts;
+mod fixed_vec;
 mod net;
 mod quantity;
 mod refusal_code;
 mod term;
-mod terms;
 mod transition;
 
-pub use arc_kind::ArcKind;
+pub use arc_kind::{ArcKind, UnknownKind};
 pub use clash::Clash;
 pub use counts::Counts;
+pub use fixed_vec::{Blank, FixedVec};
 pub use net::Net;
 pub use quantity::Quantity;
 pub use refusal_code::RefusalCode;
-pub use term::Term;
-pub use terms::Terms;
+pub use term::{Term, Terms};
 pub use transition::Transition;

@@ -1,12 +1,11 @@
 // A transition: the places that its arcs join it to, by kind, and the terms of its condition.
-ghost use Rattle.std.specs.Prelude.{◌≡◌};
+ghost use Rattle.std.specs.Prelude.{◌≡◌, []};
 ghost use Rattle.bitset.specs.Sets.{has};
-ghost use Rattle.nets.specs.Nets.{unconnected as no_arc_or_term};
-ghost use Rattle.nets.specs.Stored.{transition_of, with_arc, given_term, joined_places};
+ghost use Rattle.nets.specs.Stored.{with_arc, given_term, joined_places};
 
 use crate::arc_kind::ArcKind;
-use crate::term::Term;
-use crate::terms::Terms;
+use crate::fixed_vec::Blank;
+use crate::term::{Term, Terms};
 use bitset::PlaceSet;
 
 #[derive(Clone, Copy)]
@@ -18,46 +17,61 @@ pub struct Transition {
     pub terms: Terms,
 }
 
-impl Transition {
-    // A transition with no arc and no term.
-    pub(crate) fn unconnected() -> Transition
-        ensures { transition_of result ≡ no_arc_or_term }
-    {
-        let none = PlaceSet::empty();
+// A transition with no arc and no term.
+impl Blank for Transition {
+    ghost blank = { record { consumes = 0; produces = 0; tests = 0; inhibits = 0; terms = [] } };
+
+    fn blank() -> Transition {
         Transition {
-            consumes: none,
-            produces: none,
-            tests: none,
-            inhibits: none,
-            terms: Terms::none(),
+            consumes: PlaceSet::empty(),
+            produces: PlaceSet::empty(),
+            tests: PlaceSet::empty(),
+            inhibits: PlaceSet::empty(),
+            terms: Terms::blanks(0),
         }
     }
+}
 
+impl Transition {
     // Whether an arc of some kind joins it to `place`.
     pub fn joins(&self, place: usize) -> bool
-        ensures { result ≡ has (joined_places (transition_of self.now)) place }
+        ensures { result ≡ has (joined_places self.now) place }
     {
         let moved = self.consumes.union(self.produces);
         let seen = self.tests.union(self.inhibits);
         moved.union(seen).has(place)
     }
 
-    // One arc more, to `place`.
-    pub(crate) fn add_arc(&mut self, kind: ArcKind, place: usize)
-        ensures { transition_of self.new ≡ with_arc (transition_of self.old) kind place }
+    // The transition with one arc more, to `place`.
+    pub(crate) fn with_arc(self, kind: ArcKind, place: usize) -> Transition
+        ensures { result ≡ with_arc self kind place }
     {
         match kind {
-            ArcKind::Consumes => self.consumes = self.consumes.with(place),
-            ArcKind::Produces => self.produces = self.produces.with(place),
-            ArcKind::Tests => self.tests = self.tests.with(place),
-            ArcKind::Inhibits => self.inhibits = self.inhibits.with(place),
+            ArcKind::Consumes => Transition {
+                consumes: self.consumes.with(place),
+                ..self
+            },
+            ArcKind::Produces => Transition {
+                produces: self.produces.with(place),
+                ..self
+            },
+            ArcKind::Tests => Transition {
+                tests: self.tests.with(place),
+                ..self
+            },
+            ArcKind::Inhibits => Transition {
+                inhibits: self.inhibits.with(place),
+                ..self
+            },
         }
     }
 
-    // One term more; nothing changes where there are four.
-    pub(crate) fn add_term(&mut self, term: Term)
-        ensures { transition_of self.new ≡ given_term (transition_of self.old) term }
+    // The transition with one term more; as it is, where it has four.
+    pub(crate) fn with_term(self, term: Term) -> Transition
+        ensures { result ≡ given_term self term }
     {
-        self.terms.push(term);
+        let mut terms = self.terms;
+        terms.push(term);
+        Transition { terms, ..self }
     }
 }

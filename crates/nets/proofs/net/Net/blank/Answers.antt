@@ -1,5 +1,0 @@
-use Rattle.nets.proofs.Filling.{nothing_filled}
-use Rattle.nets.proofs.net.Net.blank.Goals as goal
-
-pub returns : goal.returns
-returns c = nothing_filled c.args.counts c.empty.result c.unconnected.result c.empty.ensures c.unconnected.ensures
