@@ -5,10 +5,11 @@ use Rattle.std.specs.List.{range_with_len}
 use Rattle.std.proofs.lemmas.List.FromFn.{length-map-range_with_len}
 use Rattle.std.proofs.lemmas.Bool.{lt-ltb, le-ltb, eq-eqb, ne_eqb, and_from, and_left, and_right, cond-true, cond-false}
 use Rattle.std.proofs.lemmas.Bool.Decides.{nat_tests}
-use Rattle.bitset.specs.Places.{with_place}
+use Rattle.bitset.specs.Room.{with_member}
 use Rattle.bitset.specs.Sets.{only}
 use Rattle.nets.specs.Kinds.{kind_number, kind_numbered}
-use Rattle.nets.specs.Nets.{Net, Transition, unconnected, at}
+use Rattle.nets.specs.declared.transition.Transition.{Transition}
+use Rattle.nets.specs.Nets.{Net, unconnected, at}
 use Rattle.nets.specs.Stored.{with_arc, given_term, blank_net}
 use Rattle.nets.specs.declared.arc_kind.ArcKind.{ArcKind}
 use Rattle.nets.specs.declared.arc_kind.ArcKind.TheVariants.{Consumes, Produces, Tests, Inhibits}
@@ -114,7 +115,7 @@ module _ (c : Counts) (ps ars ts : List ℕ) where
       other : (kind : ℕ) → ((arc_record ars j).kind ≡ kind → ⊥) → is_of T kind ≡ false
       other kind ne = and_right (eqb T T) (eqb (arc_record ars j).kind kind) (ne_eqb (arc_record ars j).kind kind ne)
 
-      put : (kind : ℕ) → (arc_record ars j).kind ≡ kind → with_place (arc_places ars T kind j) (arc_record ars j).place ≡ arc_places ars T kind (suc j)
+      put : (kind : ℕ) → (arc_record ars j).kind ≡ kind → with_member (arc_places ars T kind j) (arc_record ars j).place ≡ arc_places ars T kind (suc j)
       put kind e = cond-true (ltb (arc_record ars j).place 64) _ _ (lt-ltb (arc_record ars j).place 64 small) ∙ one_more T kind (here kind e)
 
       -- its own transition has one place more, in the set of its kind

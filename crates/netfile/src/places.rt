@@ -1,7 +1,6 @@
 // The places table.
 ghost use Rattle.std.specs.Prelude.{◌≡◌, OnOk};
 ghost use Rattle.bitset.specs.Lists.{first_of};
-ghost use Rattle.nets.specs.Stored.{net_of};
 ghost use Rattle.netfile.specs.Steps.{place_wrong, places_wrong, with_place_put, with_places};
 ghost use Rattle.std.specs.Result.{result_err};
 
@@ -12,8 +11,8 @@ use nets::Net;
 
 // Puts place `index` into the net, or says which rule its record breaks.
 fn put_place(net: &mut Net, index: usize, place: PlaceRecord) -> Result<(), Refusal>
-    ensures refused { result_err result ≡ first_of (place_wrong (net_of net.old) place index) }
-    ensures granted { OnOk result (net_of net.new ≡ with_place_put (net_of net.old) index place) }
+    ensures refused { result_err result ≡ first_of (place_wrong net.old place index) }
+    ensures granted { OnOk result (net.new ≡ with_place_put net.old index place) }
 {
     if place.mark > 1 {
         return Err(Refusal::Record(Table::Places, index, RecordFault::StartMark));
@@ -27,8 +26,8 @@ fn put_place(net: &mut Net, index: usize, place: PlaceRecord) -> Result<(), Refu
 
 // Puts the places of the table into the net, up to the first record that breaks a rule.
 pub(crate) fn put_places(net: &mut Net, table: &[u8]) -> Result<(), Refusal>
-    ensures refused { result_err result ≡ first_of (places_wrong (net_of net.old) table.now) }
-    ensures granted { OnOk result (net_of net.new ≡ with_places (net_of net.old) table.now) }
+    ensures refused { result_err result ≡ first_of (places_wrong net.old table.now) }
+    ensures granted { OnOk result (net.new ≡ with_places net.old table.now) }
 {
     for i in 0..record_count(Table::Places, table) {
         put_place(net, i, place_at(table, i))?;

@@ -1,7 +1,6 @@
 // The terms table.
 ghost use Rattle.std.specs.Prelude.{◌≡◌, ◌≤◌, OnOk};
 ghost use Rattle.bitset.specs.Lists.{first_of};
-ghost use Rattle.nets.specs.Stored.{net_of};
 ghost use Rattle.netfile.specs.Rules.{words_broken};
 ghost use Rattle.netfile.specs.Steps.{term_wrong, terms_wrong, with_term_put, with_terms};
 ghost use Rattle.std.specs.Result.{result_err};
@@ -31,8 +30,8 @@ fn check_words(term: Term, lines: usize, index: usize) -> Result<(), Refusal>
 
 // Puts term `index` into the net, or says which rule its record breaks.
 fn put_term(net: &mut Net, index: usize, found: TermRecord) -> Result<(), Refusal>
-    ensures refused { result_err result ≡ first_of (term_wrong (net_of net.old) found index) }
-    ensures granted { OnOk result (net_of net.new ≡ with_term_put (net_of net.old) found) }
+    ensures refused { result_err result ≡ first_of (term_wrong net.old found index) }
+    ensures granted { OnOk result (net.new ≡ with_term_put net.old found) }
 {
     let Some(transition) = net.transition(found.transition) else {
         return Err(Refusal::Record(Table::Terms, index, RecordFault::Transition));
@@ -47,8 +46,8 @@ fn put_term(net: &mut Net, index: usize, found: TermRecord) -> Result<(), Refusa
 
 // Puts the terms of the table into the net, up to the first record that breaks a rule.
 pub(crate) fn put_terms(net: &mut Net, table: &[u8]) -> Result<(), Refusal>
-    ensures refused { result_err result ≡ first_of (terms_wrong (net_of net.old) table.now) }
-    ensures granted { OnOk result (net_of net.new ≡ with_terms (net_of net.old) table.now) }
+    ensures refused { result_err result ≡ first_of (terms_wrong net.old table.now) }
+    ensures granted { OnOk result (net.new ≡ with_terms net.old table.now) }
 {
     for i in 0..record_count(Table::Terms, table) {
         put_term(net, i, term_at(table, i))?;

@@ -54,9 +54,13 @@ named i j m (Some w) = Some (record { lower = i; higher = j; marking = m; lines 
 abbrev pub clash_between : Transition → Transition → ℕ → ℕ → Option Clash
 clash_between t u i j = cond (conflict t u && both_enabled t u) (named i j (needs_of_both t u) (lines_for t.terms u.terms)) None
 
+-- the clash of transition j, which is u, with the lowest below k that it clashes with
+unfoldable pub clash_with : Net → Transition → ℕ → ℕ → Option Clash
+clash_with n u j k = first_below (λ i. clash_between (at n i) u i j) k
+
 -- the clash of transition j with the lowest that it clashes with
 abbrev pub clash_below : Net → ℕ → Option Clash
-clash_below n j = first_below (λ i. clash_between (at n i) (at n j) i j) j
+clash_below n j = clash_with n (at n j) j j
 
 -- the clash with the least higher number, then the least lower
 abbrev pub first_clash : Net → Option Clash

@@ -1,5 +1,6 @@
 -- When a transition can fire, what firing it does, and which transitions conflict. A marking is the set of the marked places, a line word that of the lines that are high.
 use Rattle.std.specs.Prelude.{◌≡◌, ℕ, Bool, true, false, not, ◌&&◌, ◌||◌, ◌↔◌, List, [], ◌∷◌, bit_and, bit_or}
+use Rattle.std.specs.List.{list_any}
 use Rattle.bitset.specs.Sets.{within, apart, without}
 use Rattle.nets.specs.declared.term.Term.{Term}
 use Rattle.nets.specs.declared.transition.Transition.{Transition}
@@ -10,8 +11,7 @@ term_holds w c = within c.high w && apart c.low w
 
 -- a condition holds when one of its terms does
 abbrev pub condition : ℕ → List Term → Bool
-condition w [] = false
-condition w (c ∷ cs) = term_holds w c || condition w cs
+condition w cs = list_any (term_holds w) cs
 
 -- the places that have to be marked where t fires
 abbrev pub needs : Transition → ℕ

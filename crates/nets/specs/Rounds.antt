@@ -2,6 +2,7 @@
 use Rattle.std.specs.Prelude.{◌≡◌, ℕ, zero, suc, ◌+◌, ◌^◌, ◌<◌, Bool, true, false, cond, not, ◌&&◌, ◌||◌, List, [], ◌∷◌, length, ◌==◌, bit_and, bit_or, slice_index}
 use Rattle.std.specs.List.Sorted.{IsPermutation}
 use Rattle.bitset.specs.Sets.{has, without, only, below, members}
+use Rattle.nets.specs.declared.transition.Transition.{Transition}
 use Rattle.nets.specs.Nets.{Net, at}
 use Rattle.nets.specs.Firing.{can_fire, fire, conflict}
 use Rattle.nets.specs.WellFormed.{WellFormed}
@@ -10,10 +11,14 @@ use Rattle.nets.specs.WellFormed.{WellFormed}
 abbrev pub begins : Net → ℕ → ℕ
 begins n m = cond (m == 0) n.start m
 
--- some transition of r below k conflicts with t
+-- some transition of r below k conflicts with this one
+abbrev pub hindered : Net → ℕ → Transition → ℕ → Bool
+hindered n r x zero = false
+hindered n r x (suc k) = (has r k && conflict (at n k) x) || hindered n r x k
+
+-- some transition of r below k conflicts with transition t
 abbrev pub excluded : Net → ℕ → ℕ → ℕ → Bool
-excluded n r t zero = false
-excluded n r t (suc k) = (has r k && conflict (at n k) (at n t)) || excluded n r t k
+excluded n r t k = hindered n r (at n t) k
 
 -- r are those taken below t: and t, if it can fire and conflicts with none of them
 abbrev pub take_next : Net → ℕ → ℕ → ℕ → ℕ → ℕ

@@ -72,14 +72,16 @@ impl Net {
 
     // For each place the outputs that it raises.
     pub fn raises(&self) -> &[u32]
-        ensures { result.now ≡ self.now.raises }
+        ensures words { result.now ≡ self.now.raises }
+        ensures one_each { length result.now ≡ self.now.places }
     {
         self.raises.as_slice()
     }
 
     // Its transitions by number.
     pub fn transitions(&self) -> &[Transition]
-        ensures { result.now ≡ self.now.transitions }
+        ensures items { result.now ≡ self.now.transitions }
+        ensures few { length result.now ≤ 64 }
     {
         self.transitions.as_slice()
     }

@@ -1,6 +1,5 @@
 // Counts and numbers of what a net has, in words.
 ghost use Rattle.std.specs.Prelude.{◌≡◌, count_ones};
-ghost use Rattle.bitset.specs.Places.{places_in};
 ghost use Rattle.nettext.specs.declared.nouns.Noun.TheVariants.{Place, Line, Output};
 
 use bitset::PlaceSet;
@@ -53,7 +52,7 @@ pub struct Numbered {
 impl Numbered {
     // The places of a set.
     pub(crate) fn places(set: PlaceSet) -> Numbered
-        ensures { (result.noun ≡ Place) × (result.word ≡ places_in set) }
+        ensures { (result.noun ≡ Place) × (result.word ≡ set) }
     {
         Numbered {
             noun: Noun::Place,

@@ -5,14 +5,14 @@ use lib.Bits.{bit_or}
 use Rattle.std.proofs.lemmas.List.{drop_more}
 use Rattle.std.proofs.lemmas.Bool.{and_parts, and_from, or_cases, or_left, or_right, cases_lt}
 use Rattle.bitset.proofs.Lists.{none_some, some_same}
-use Rattle.bitset.specs.Places.{set_of}
 use Rattle.bitset.specs.Sets.{within, apart, below}
 use Rattle.bitset.proofs.Sets.{apart_comm, within_left, within_right, within_both, apart_both, apart_parts, apart_by}
 use Rattle.nets.specs.declared.clash.Clash.{Clash}
 use Rattle.nets.specs.declared.term.Term.{Term}
-use Rattle.nets.specs.Nets.{Net, Transition, at}
+use Rattle.nets.specs.declared.transition.Transition.{Transition}
+use Rattle.nets.specs.Nets.{Net, at}
 use Rattle.nets.specs.Firing.{term_holds, condition, needs, forbids, enabled, can_fire, conflict}
-use Rattle.nets.specs.Clashes.{or_else, first_below, first_over, lines_of_both, lines_with, lines_for, needs_of_both, both_enabled, named, clash_between, clash_below, first_clash, Clashing, First, Told}
+use Rattle.nets.specs.Clashes.{or_else, first_below, first_over, lines_of_both, lines_with, lines_for, needs_of_both, both_enabled, named, clash_between, clash_with, clash_below, first_clash, Clashing, First, Told}
 use Rattle.nets.specs.WellFormed.{always, WellFormed}
 
 -- ANSWERS
@@ -140,7 +140,7 @@ enabled_there t u e =
     )
 
 abbrev clash_at : ℕ → ℕ → ℕ → ℕ → Clash
-clash_at i j m w = record { lower = i; higher = j; marking = set_of m; lines = w }
+clash_at i j m w = record { lower = i; higher = j; marking = m; lines = w }
 
 between : (t u : Transition) (i j : ℕ) (c : Clash) → clash_between t u i j ≡ Some c
     → (w : ℕ) × (clash_at i j (needs_of_both t u) w ≡ c) × (conflict t u ≡ true) × (both_enabled t u ≡ true) × (lines_for t.terms u.terms ≡ Some w)
@@ -174,6 +174,7 @@ none_between t u i j e m w k f g =
 
 module _ (n : Net) where
   none_below : (j : ℕ) → clash_below n j ≡ None → (i m w : ℕ) → Clashing n i j m w → ⊥
+  unfolding clash_with
   none_below j e i m w c =
       none_between (at n i) (at n j) i j (subst (Least (λ x. clash_between (at n x) (at n j) x j) j) e (least (λ x. clash_between (at n x) (at n j) x j) j) i c.in_order)
       m w c.conflicting c.lower_fires c.higher_fires
@@ -210,6 +211,7 @@ module _ (n : Net) where
       }
 
   pub first_told : Told n (first_clash n)
+  unfolding clash_with
   first_told = go (first_clash n) (least (clash_below n) (length n.transitions))
     where
       go : (o : Option Clash) → Least (clash_below n) (length n.transitions) o → Told n o

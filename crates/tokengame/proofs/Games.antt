@@ -4,12 +4,13 @@ use mathlib.Core.Bool.{false≢true}
 use lib.Bits.{bit_and}
 use Rattle.std.proofs.lemmas.Bool.{le-leb, lt-leb, lt-ltb, le-ltb, ltb-true, eq-eqb, ne_eqb, and_parts, and_from, cases_Bool, cases_lt}
 use Rattle.bitset.specs.Lists.{first_of, none_in}
-use Rattle.bitset.specs.Places.{room, lowest_in}
+use Rattle.bitset.specs.Room.{room, lowest_in}
 use Rattle.bitset.specs.Sets.{has, within, apart, without, below, members}
 use Rattle.bitset.proofs.Lists.{none_some, first_joined, first_past}
 use Rattle.bitset.proofs.Sets.{has_or, has_and, has-without, has_none, same_word, within_each, within_from, apart_each, apart_from, first_lowest}
 use Rattle.nets.specs.Firing.{condition, needs, forbids, enabled, hindering, can_fire}
-use Rattle.nets.specs.Nets.{Net, Transition, at}
+use Rattle.nets.specs.declared.transition.Transition.{Transition}
+use Rattle.nets.specs.Nets.{Net, at}
 use Rattle.tokengame.specs.declared.game_refusal.GameRefusal.{GameRefusal}
 use Rattle.tokengame.specs.declared.game_refusal.GameRefusal.TheVariants.{UnknownPlace, UnknownTransition, NotEnabled, ConditionFails}
 use Rattle.tokengame.specs.Games.{where_so, each_hindering, obstacles, GameLaws}

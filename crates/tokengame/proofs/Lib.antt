@@ -4,5 +4,6 @@ pub mod Firings
 pub mod Games
 pub mod Lacking
 pub mod Rounds
+pub mod Searched
 pub mod Told
 pub mod Unions

@@ -1,7 +1,7 @@
 -- The token game: what stands in the way of one transition at one marking under one line word.
 use Rattle.std.specs.Prelude.{◌≡◌, ℕ, ◌<◌, Bool, true, false, cond, not, ◌&&◌, List, [], ◌∷◌, ◌++◌, map, length, Some, bit_and, nat_le, nat_lt}
 use Rattle.bitset.specs.Lists.{first_of, none_in}
-use Rattle.bitset.specs.Places.{room}
+use Rattle.bitset.specs.Room.{room}
 use Rattle.bitset.specs.Sets.{has, within, below, members}
 use Rattle.nets.specs.declared.refusal_code.RefusalCode.{RefusalCode}
 use Rattle.nets.specs.Codes.{four}

@@ -1,11 +1,10 @@
 // Finding a clash: two conflicting transitions that can both fire at some marking under some line word.
-ghost use Rattle.std.specs.Prelude.{◌≡◌, ◌<◌, length};
-ghost use Rattle.nets.specs.Clashes.{lines_of_both, lines_with, lines_for, clash_between, clash_below, first_clash as first_clash_of, Told};
-ghost use Rattle.nets.specs.Stored.{net_of, transition_of};
+ghost use Rattle.std.specs.Prelude.{◌≡◌, length, min};
+ghost use Rattle.nets.specs.Clashes.{lines_of_both, lines_with, lines_for, clash_between, clash_with, first_clash as first_clash_of, Told};
 
 use crate::conflicts::conflict;
 use crate::firing::{forbids, needs};
-use bitset::words;
+use bitset::Word;
 use nets::{Clash, Net, Term, Transition};
 
 // The lines that one of two terms wants high, if neither wants one of these low.
@@ -14,7 +13,7 @@ fn lines_of_both(one: Term, other: Term) -> Option<u32>
 {
     let high = one.high | other.high;
     let low = one.low | other.low;
-    if !words::apart(high, low) {
+    if !high.apart(low) {
         return None;
     }
     Some(high)
@@ -24,29 +23,19 @@ fn lines_of_both(one: Term, other: Term) -> Option<u32>
 fn lines_with(term: Term, others: &[Term]) -> Option<u32>
     ensures { result ≡ lines_with term others.now }
 {
-    for other in others {
-        if let Some(lines) = lines_of_both(term, *other) {
-            return Some(lines);
-        }
-    }
-    None
+    others.iter().find_map(|other| lines_of_both(term, *other))
 }
 
 // A line word under which two conditions hold.
 fn lines_for(terms: &[Term], others: &[Term]) -> Option<u32>
     ensures { result ≡ lines_for terms.now others.now }
 {
-    for term in terms {
-        if let Some(lines) = lines_with(*term, others) {
-            return Some(lines);
-        }
-    }
-    None
+    terms.iter().find_map(|term| lines_with(*term, others))
 }
 
 // The clash of two transitions, which have these numbers.
 fn clash_between(one: &Transition, other: &Transition, lower: usize, higher: usize) -> Option<Clash>
-    ensures { result ≡ clash_between (transition_of one.now) (transition_of other.now) lower higher }
+    ensures { result ≡ clash_between one.now other.now lower higher }
 {
     let marking = needs(one).union(needs(other));
     let unmarked = forbids(one).union(forbids(other));
@@ -62,30 +51,24 @@ fn clash_between(one: &Transition, other: &Transition, lower: usize, higher: usi
     })
 }
 
-// The clash of a transition with the lowest that it clashes with.
-fn clash_below(net: &Net, higher: usize) -> Option<Clash>
-    requires { higher < length (net_of net.now).transitions }
-    ensures { result ≡ clash_below (net_of net.now) higher }
+// The clash of transition `higher`, which is `other`, with the lowest that it clashes with.
+fn clash_below(net: &Net, higher: usize, other: &Transition) -> Option<Clash>
+    ensures { result ≡ clash_with net.now other.now higher (min higher (length net.now.transitions)) }
 {
-    let other = net.transition(higher)?;
-    for lower in 0..higher {
-        let one = net.transition(lower)?;
-        if let Some(clash) = clash_between(one, other, lower, higher) {
-            return Some(clash);
-        }
-    }
-    None
+    net.transitions()
+        .iter()
+        .take(higher)
+        .enumerate()
+        .find_map(|(lower, one)| clash_between(one, other, lower, higher))
 }
 
 // The clash with the least higher number, then the least lower, and where it shows.
 pub fn first_clash(net: &Net) -> Option<Clash>
-    ensures answer { result ≡ first_clash_of (net_of net.now) }
-    ensures law { Told (net_of net.now) result }
+    ensures answer { result ≡ first_clash_of net.now }
+    ensures law { Told net.now result }
 {
-    for higher in 0..net.counts().transitions {
-        if let Some(clash) = clash_below(net, higher) {
-            return Some(clash);
-        }
-    }
-    None
+    net.transitions()
+        .iter()
+        .enumerate()
+        .find_map(|(higher, other)| clash_below(net, higher, other))
 }

@@ -1,48 +1,41 @@
 // When a transition can fire, and what firing it does.
 ghost use Rattle.std.specs.Prelude.{◌≡◌};
-ghost use Rattle.bitset.specs.Places.{places_in};
 ghost use Rattle.nets.specs.Firing.{term_holds, condition, needs as needed_places, forbids as forbidden_places, enabled, hindering as hindering_places, can_fire, fire as fired_marking};
-ghost use Rattle.nets.specs.Stored.{transition_of};
 
-use bitset::{PlaceSet, words};
+use bitset::{PlaceSet, Word};
 use nets::{Term, Transition};
 
 // Whether a term holds under a line word.
 fn holds(term: Term, lines: u32) -> bool
     ensures { result ≡ term_holds lines term }
 {
-    words::within(term.high, lines) && words::apart(term.low, lines)
+    term.high.within(lines) && term.low.apart(lines)
 }
 
 // Whether one of the terms of a condition holds under a line word.
 pub(crate) fn condition_holds(terms: &[Term], lines: u32) -> bool
     ensures { result ≡ condition lines terms.now }
 {
-    for term in terms {
-        if holds(*term, lines) {
-            return true;
-        }
-    }
-    false
+    terms.iter().any(|term| holds(*term, lines))
 }
 
 // The places that have to be marked where a transition fires.
 pub(crate) fn needs(transition: &Transition) -> PlaceSet
-    ensures { places_in result ≡ needed_places (transition_of transition.now) }
+    ensures { result ≡ needed_places transition.now }
 {
     transition.consumes.union(transition.tests)
 }
 
 // The places that have to be unmarked where a transition fires.
 pub(crate) fn forbids(transition: &Transition) -> PlaceSet
-    ensures { places_in result ≡ forbidden_places (transition_of transition.now) }
+    ensures { result ≡ forbidden_places transition.now }
 {
     transition.produces.union(transition.inhibits)
 }
 
 // The places for which a transition is not enabled.
 pub fn hindering(transition: &Transition, marking: PlaceSet) -> PlaceSet
-    ensures { places_in result ≡ hindering_places (places_in marking) (transition_of transition.now) }
+    ensures { result ≡ hindering_places marking transition.now }
 {
     let unmarked = needs(transition).without(marking);
     let marked = forbids(transition).common(marking);
@@ -51,21 +44,21 @@ pub fn hindering(transition: &Transition, marking: PlaceSet) -> PlaceSet
 
 // Whether a transition is enabled at a marking.
 fn is_enabled(transition: &Transition, marking: PlaceSet) -> bool
-    ensures { result ≡ enabled (places_in marking) (transition_of transition.now) }
+    ensures { result ≡ enabled marking transition.now }
 {
     marking.includes(needs(transition)) && !forbids(transition).meets(marking)
 }
 
 // Whether a transition can fire at a marking under a line word.
 pub fn can_fire(transition: &Transition, marking: PlaceSet, lines: u32) -> bool
-    ensures { result ≡ can_fire (places_in marking) lines (transition_of transition.now) }
+    ensures { result ≡ can_fire marking lines transition.now }
 {
     is_enabled(transition, marking) && condition_holds(transition.terms.as_slice(), lines)
 }
 
 // The marking after a transition fires.
 pub(crate) fn fire(transition: &Transition, marking: PlaceSet) -> PlaceSet
-    ensures { places_in result ≡ fired_marking (places_in marking) (transition_of transition.now) }
+    ensures { result ≡ fired_marking marking transition.now }
 {
     marking
         .without(transition.consumes)

@@ -6,6 +6,7 @@ mod conflicts;
 mod firing;
 mod game;
 mod game_refusal;
+mod moment;
 mod one_round;
 mod raised_outputs;
 

@@ -1,16 +1,14 @@
 // The outputs of a marking.
 ghost use Rattle.std.specs.Prelude.{◌≡◌, if◌then◌else◌, bit_or};
-ghost use Rattle.bitset.specs.Places.{places_in};
 ghost use Rattle.bitset.specs.Sets.{has};
 ghost use Rattle.nets.specs.Rounds.{outputs_of, Raised};
-ghost use Rattle.nets.specs.Stored.{net_of};
 
 use bitset::PlaceSet;
 use nets::Net;
 
 // What `place` raises, if it is marked, beside what is raised already.
 fn raise(marking: PlaceSet, place: usize, word: u32, raised: u32) -> u32
-    ensures { result ≡ bit_or (if has (places_in marking) place then word else 0) raised }
+    ensures { result ≡ bit_or (if has marking place then word else 0) raised }
 {
     let more = if marking.has(place) { word } else { 0 };
     more | raised
@@ -18,8 +16,8 @@ fn raise(marking: PlaceSet, place: usize, word: u32, raised: u32) -> u32
 
 // All that the marked places raise.
 pub fn outputs(net: &Net, marking: PlaceSet) -> u32
-    ensures answer { result ≡ outputs_of (net_of net.now) (places_in marking) }
-    ensures law { Raised (net_of net.now) (places_in marking) }
+    ensures answer { result ≡ outputs_of net.now marking }
+    ensures law { Raised net.now marking }
 {
     let mut raised = 0;
     for (place, word) in net.raises().iter().enumerate() {

@@ -2,7 +2,6 @@ use Rattle.std.proofs.Common.{ℕ, ◌<◌, is_err, Some, ap, ◌∙◌, subst}
 use Rattle.std.specs.Result.{result_err}
 use Rattle.std.proofs.lemmas.Result.{err_from_is_err_and, IfOk-from_err}
 use Rattle.bitset.specs.Lists.{first_of}
-use Rattle.nets.specs.Stored.{net_of}
 use Rattle.netfile.specs.Files.{arc_record}
 use Rattle.netfile.specs.Steps.{put_arc, arc_wrong, with_arc_put}
 use Rattle.netfile.proofs.Turns.{turn_on, turn_out}
@@ -16,9 +15,9 @@ returns-in_err-put_arc c =
       refused =
           ap result_err p.1
           ∙ turn_out (put_arc c.args.table.now) (λ m i. arc_wrong m (arc_record c.args.table.now i) i)
-          (net_of c.args.net.now) c.loop-i.i (net_of c.loop-i.net) c.loop-i.invariant _ p.0
+          c.args.net.now c.loop-i.i c.loop-i.net c.loop-i.invariant _ p.0
           (subst (λ (n : ℕ). c.loop-i.i < n) c.record_count-i-end.ensures c.loop-i-test.true)
-          (ap Some p.2 ∙ broken ∙ ap (λ x. first_of (arc_wrong (net_of c.loop-i.net) x c.loop-i.i)) c.arc_at.ensures);
+          (ap Some p.2 ∙ broken ∙ ap (λ x. first_of (arc_wrong c.loop-i.net x c.loop-i.i)) c.arc_at.ensures);
       granted = IfOk-from_err c.from_residual.result _ (ap is_err p.1);
     }
 
@@ -26,6 +25,6 @@ pub loop-i-preserved : goal.loop-i-preserved
 loop-i-preserved c =
     let kept = c.in_ok-put_arc.ensures in
     turn_on (put_arc c.args.table.now) (λ m i. arc_wrong m (arc_record c.args.table.now i) i)
-    (net_of c.args.net.now) c.loop-i.i (net_of c.loop-i.net) c.loop-i.invariant _
-    (kept.refused ∙ ap (λ x. first_of (arc_wrong (net_of c.loop-i.net) x c.loop-i.i)) c.arc_at.ensures)
-    (kept.granted ∙ ap (λ x. with_arc_put (net_of c.loop-i.net) x) c.arc_at.ensures)
+    c.args.net.now c.loop-i.i c.loop-i.net c.loop-i.invariant _
+    (kept.refused ∙ ap (λ x. first_of (arc_wrong c.loop-i.net x c.loop-i.i)) c.arc_at.ensures)
+    (kept.granted ∙ ap (λ x. with_arc_put c.loop-i.net x) c.arc_at.ensures)

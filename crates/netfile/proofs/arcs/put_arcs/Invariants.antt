@@ -1,4 +1,3 @@
-use Rattle.nets.specs.Stored.{net_of}
 use Rattle.netfile.specs.Files.{arc_record}
 use Rattle.netfile.specs.Steps.{put_arc, arc_wrong}
 use Rattle.netfile.proofs.Turns.{Well}
@@ -6,4 +5,4 @@ use Rattle.netfile.proofs.arcs.put_arcs.Given as goal
 
 abbrev pub invariant-loop-i : goal.invariant-loop-i
 invariant-loop-i l =
-    Well (put_arc l.table) (λ m i. arc_wrong m (arc_record l.table i) i) (net_of l.initial.net) l.i (net_of l.net)
+    Well (put_arc l.table) (λ m i. arc_wrong m (arc_record l.table i) i) l.initial.net l.i l.net

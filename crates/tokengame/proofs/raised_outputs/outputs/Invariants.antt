@@ -1,8 +1,6 @@
 use Rattle.std.proofs.Common.{◌≡◌, get_or}
-use Rattle.bitset.specs.Places.{places_in}
 use Rattle.nets.specs.Rounds.{union}
-use Rattle.nets.specs.Stored.{net_of}
 use Rattle.tokengame.proofs.raised_outputs.outputs.Given as goal
 
 abbrev pub invariant-loop-place : goal.invariant-loop-place
-invariant-loop-place l = l.raised ≡ union (λ p. get_or (net_of l.net).raises p 0) (places_in l.marking) l.place
+invariant-loop-place l = l.raised ≡ union (λ p. get_or l.net.raises p 0) l.marking l.place

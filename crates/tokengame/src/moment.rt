@@ -1,0 +1,67 @@
+// A marking and a line word: what says which transitions can fire.
+ghost use Rattle.std.specs.Prelude.{◌≡◌, ◌<◌, length};
+ghost use Rattle.bitset.specs.Sets.{within, below};
+ghost use Rattle.nets.specs.Firing.{can_fire as fires};
+ghost use Rattle.nets.specs.Nets.{at};
+ghost use Rattle.nets.specs.Rounds.{hindered as is_hindered, take_next, taken as taken_below};
+
+use crate::conflicts::conflict;
+use crate::firing::can_fire;
+use bitset::{PlaceSet, TransitionSet};
+use nets::{Net, Transition};
+
+#[derive(Clone, Copy)]
+pub(crate) struct Moment {
+    pub(crate) marking: PlaceSet,
+    pub(crate) lines: u32,
+}
+
+// Whether one of the transitions taken below `number` conflicts with `transition`.
+fn hindered(net: &Net, taken: TransitionSet, number: usize, transition: &Transition) -> bool
+    ensures { number < length net.now.transitions → result ≡ is_hindered net.now taken transition.now number }
+{
+    let mut lower = net.transitions().iter().take(number).enumerate();
+    lower.any(|(other, held)| taken.has(other) && conflict(held, transition))
+}
+
+impl Moment {
+    // Whether the net has each place of the marking.
+    pub(crate) fn has_places(&self, net: &Net) -> bool
+        ensures { result ≡ within self.now.marking (below net.now.places) }
+    {
+        PlaceSet::below(net.counts().places).includes(self.marking)
+    }
+
+    // The transitions that are taken after transition `number`, if `taken` are those below it.
+    fn take_next(
+        &self,
+        net: &Net,
+        taken: TransitionSet,
+        number: usize,
+        transition: &Transition,
+    ) -> TransitionSet
+        requires few { number < 64 }
+        requires of_the_net { number < length net.now.transitions }
+        requires same { transition.now ≡ at net.now number }
+        ensures { result ≡ take_next net.now self.now.marking self.now.lines number taken }
+    {
+        if can_fire(transition, self.marking, self.lines)
+            && !hindered(net, taken, number, transition)
+        {
+            taken.with(number)
+        } else {
+            taken
+        }
+    }
+
+    // The transitions that are taken, in rising number.
+    pub(crate) fn taken(&self, net: &Net) -> TransitionSet
+        ensures { result ≡ taken_below net.now self.now.marking self.now.lines (length net.now.transitions) }
+    {
+        let mut taken = TransitionSet::empty();
+        for (number, transition) in net.transitions().iter().enumerate() {
+            taken = self.take_next(net, taken, number, transition);
+        }
+        taken
+    }
+}
