@@ -3,9 +3,9 @@ use Rattle.std.proofs.Common.{◌≡◌, ℕ, ◌<◌, ◌≤◌, Bool, true, fa
 use Rattle.std.proofs.lemmas.Bool.{leb-false, ltb-false, not-false}
 use Rattle.bitset.specs.Sets.{within, apart, below}
 use Rattle.nets.specs.declared.term.Term.{Term}
-use Rattle.netfile.specs.declared.records.ArcRecord.{ArcRecord}
-use Rattle.netfile.specs.declared.records.PlaceRecord.{PlaceRecord}
-use Rattle.netfile.specs.declared.records.TermRecord.{TermRecord}
+use Rattle.netfile.specs.declared.arcs.ArcRecord.{ArcRecord}
+use Rattle.netfile.specs.declared.places.PlaceRecord.{PlaceRecord}
+use Rattle.netfile.specs.declared.terms.TermRecord.{TermRecord}
 use Rattle.netlayout.specs.declared.refusal.RecordFault.TheVariants.{StartMark, Output, Transition, Place, Kind, HighLine, LowLine}
 use Rattle.netlayout.specs.declared.refusal.Refusal.TheVariants.{Record, RepeatedArc, LineInBothWords, FifthTerm}
 use Rattle.netlayout.specs.declared.table.Table.TheVariants.{Places, Arcs, Terms}

@@ -10,7 +10,7 @@ use Rattle.bitset.specs.Sets.{has, only}
 use Rattle.bitset.proofs.Sets.{has_or, has-only, has_none}
 use Rattle.nets.specs.declared.transition.Transition.{Transition}
 use Rattle.nets.specs.Nets.{unconnected, at}
-use Rattle.netfile.specs.declared.records.ArcRecord.{ArcRecord}
+use Rattle.netfile.specs.declared.arcs.ArcRecord.{ArcRecord}
 use Rattle.netlayout.specs.declared.table.Table.TheVariants.{Places, Arcs, Terms}
 use Rattle.netlayout.specs.Layouts.{places_said, transitions_said, table_in}
 use Rattle.netfile.specs.Files.{records, place_record, arc_record, term_record, start_places, arc_of, arc_places, term_list, transition_said, net_in}

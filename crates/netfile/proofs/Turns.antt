@@ -1,10 +1,26 @@
 -- One turn of a loop that puts records into a net, up to the first that breaks a rule.
-use Rattle.std.proofs.Common.{◌≡◌, ℕ, ◌+◌, ◌<◌, List, [], Some, None, sym, ap, ◌∙◌, add-one}
+use Rattle.std.proofs.Common.{◌≡◌, ℕ, zero, suc, ◌+◌, ◌*◌, ◌<◌, List, [], get_or, take, drop, Some, None, sym, ap, ◌∙◌, add-one, arith, drop-drop}
+use Rattle.std.proofs.Math.Nat.{mul-suc}
+use Rattle.std.specs.Simd.{first_chunks}
+use Rattle.netfile.specs.Files.{record_bytes}
 use Rattle.nets.specs.Nets.{Net}
 use Rattle.bitset.specs.Lists.{first_of}
 use Rattle.netlayout.specs.declared.refusal.Refusal.{Refusal}
 use Rattle.netfile.specs.Steps.{put_below, wrong_below}
 use Rattle.netfile.proofs.Lists.{none_more, first_at}
+
+-- the bytes of record i, as a slice cut into arrays has them
+chunk_at : (size k : ℕ) (bs : List ℕ) (i : ℕ) (d : List ℕ) → i < k → get_or (first_chunks size k bs) i d ≡ record_bytes size bs i
+chunk_at size (suc k) bs zero d h = let z : 0 ≡ size * 0 = omega arith in ap (λ (m : ℕ). take size (drop m bs)) z
+chunk_at size (suc k) bs (suc i) d h =
+    chunk_at size k (drop size bs) i d (omega arith)
+    ∙ ap (take size) (drop-drop (size * i) size bs)
+    ∙ ap (λ (m : ℕ). take size (drop m bs)) (let e = mul-suc size i in omega arith)
+chunk_at size zero bs i d h = absurd (omega arith)
+
+-- the array that is read as element i
+pub read_at : (size k : ℕ) (bs : List ℕ) (all : List (List ℕ)) (i : ℕ) (x : List ℕ) → all ≡ first_chunks size k bs → i < k → x ≡ get_or all i x → x ≡ record_bytes size bs i
+read_at size k bs all i x e h is = is ∙ ap (λ xs. get_or xs i x) e ∙ chunk_at size k bs i x h
 
 -- the net so far, and nothing wrong so far
 abbrev pub Well : (Net → ℕ → Net) → (Net → ℕ → List Refusal) → Net → ℕ → Net → Type 0

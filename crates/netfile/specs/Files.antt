@@ -1,13 +1,13 @@
 -- The records of a net file, and the net that its bytes say.
-use Rattle.std.specs.Prelude.{ℕ, zero, suc, ◌+◌, ◌*◌, ◌/◌, Bool, cond, ◌&&◌, List, [], ◌∷◌, ◌++◌, map, length, ◌==◌, bit_or}
+use Rattle.std.specs.Prelude.{ℕ, zero, suc, ◌+◌, ◌*◌, ◌/◌, Bool, cond, ◌&&◌, List, [], ◌∷◌, ◌++◌, map, length, take, drop, ◌==◌, bit_or}
 use Rattle.std.specs.List.{range_with_len}
 use Rattle.bitset.specs.Sets.{only}
 use Rattle.nets.specs.declared.transition.Transition.{Transition}
 use Rattle.nets.specs.Nets.{Net}
 use Rattle.nets.specs.declared.term.Term.{Term}
-use Rattle.netfile.specs.declared.records.ArcRecord.{ArcRecord}
-use Rattle.netfile.specs.declared.records.PlaceRecord.{PlaceRecord}
-use Rattle.netfile.specs.declared.records.TermRecord.{TermRecord}
+use Rattle.netfile.specs.declared.arcs.ArcRecord.{ArcRecord}
+use Rattle.netfile.specs.declared.places.PlaceRecord.{PlaceRecord}
+use Rattle.netfile.specs.declared.terms.TermRecord.{TermRecord}
 use Rattle.netlayout.specs.declared.table.Table.{Table}
 use Rattle.netlayout.specs.declared.table.Table.TheVariants.{Places, Arcs, Terms}
 use Rattle.netlayout.specs.Tables.{record_size}
@@ -21,18 +21,31 @@ four_bytes bs i = byte bs i * 16777216 + byte bs (i + 1) * 65536 + byte bs (i + 
 abbrev pub records : Table → List ℕ → ℕ
 records t bs = length bs / record_size t
 
+-- the bytes of record i, where a record has so many
+abbrev pub record_bytes : ℕ → List ℕ → ℕ → List ℕ
+record_bytes size bs i = take size (drop (size * i) bs)
+
+-- what the bytes of a place, of an arc and of a term say
+abbrev pub place_said : List ℕ → PlaceRecord
+place_said bs = record { mark = byte bs 0; raise = four_bytes bs 1 }
+
+abbrev pub arc_said : List ℕ → ArcRecord
+arc_said bs = record { transition = byte bs 0; place = byte bs 1; kind = byte bs 2 }
+
+abbrev pub term_said : List ℕ → TermRecord
+term_said bs = record { transition = byte bs 0; term = record { high = four_bytes bs 1; low = four_bytes bs 5 } }
+
 -- record i of the places
 abbrev pub place_record : List ℕ → ℕ → PlaceRecord
-place_record bs i = record { mark = byte bs (5 * i); raise = four_bytes bs (5 * i + 1) }
+place_record bs i = place_said (record_bytes 5 bs i)
 
 -- record i of the arcs
 abbrev pub arc_record : List ℕ → ℕ → ArcRecord
-arc_record bs i = record { transition = byte bs (3 * i); place = byte bs (3 * i + 1); kind = byte bs (3 * i + 2) }
+arc_record bs i = arc_said (record_bytes 3 bs i)
 
 -- record i of the terms
 abbrev pub term_record : List ℕ → ℕ → TermRecord
-term_record bs i =
-    record { transition = byte bs (9 * i); term = record { high = four_bytes bs (9 * i + 1); low = four_bytes bs (9 * i + 5) } }
+term_record bs i = term_said (record_bytes 9 bs i)
 
 -- the places below k that start marked
 abbrev pub start_places : List ℕ → ℕ → ℕ

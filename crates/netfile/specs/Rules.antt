@@ -4,9 +4,9 @@ use Rattle.bitset.specs.Sets.{within, apart, below}
 use Rattle.nets.specs.declared.transition.Transition.{Transition as NetTransition}
 use Rattle.nets.specs.Nets.{Net, at}
 use Rattle.nets.specs.declared.term.Term.{Term}
-use Rattle.netfile.specs.declared.records.ArcRecord.{ArcRecord}
-use Rattle.netfile.specs.declared.records.PlaceRecord.{PlaceRecord}
-use Rattle.netfile.specs.declared.records.TermRecord.{TermRecord}
+use Rattle.netfile.specs.declared.arcs.ArcRecord.{ArcRecord}
+use Rattle.netfile.specs.declared.places.PlaceRecord.{PlaceRecord}
+use Rattle.netfile.specs.declared.terms.TermRecord.{TermRecord}
 use Rattle.netlayout.specs.declared.refusal.RecordFault.TheVariants.{StartMark, Output, Transition, Place, Kind, HighLine, LowLine}
 use Rattle.netlayout.specs.declared.refusal.Refusal.{Refusal}
 use Rattle.netlayout.specs.declared.refusal.Refusal.TheVariants.{Record, RepeatedArc, LineInBothWords, FifthTerm, MovesNothing, NoTerm, NoStartPlace}

@@ -4,7 +4,7 @@ use Rattle.std.specs.List.{range_with_len}
 use Rattle.bitset.specs.Sets.{has}
 use Rattle.nets.specs.Nets.{Net, at}
 use Rattle.nets.specs.declared.term.Term.{Term}
-use Rattle.netfile.specs.declared.records.TermRecord.{TermRecord}
+use Rattle.netfile.specs.declared.terms.TermRecord.{TermRecord}
 use Rattle.netlayout.specs.declared.table.Table.TheVariants.{Places, Arcs, Terms}
 use Rattle.netlayout.specs.Layouts.{places_said, transitions_said, lines_said, outputs_said, table_in}
 use Rattle.netfile.specs.Files.{records, place_record, arc_record, term_record}

@@ -9,9 +9,10 @@ ghost use Rattle.nets.specs.Stored.{blank_net};
 ghost use Rattle.nets.specs.WellFormed.{WellFormed};
 ghost use Rattle.std.specs.Result.{result_err};
 
-use crate::arcs::put_arcs;
-use crate::places::put_places;
-use crate::terms::put_terms;
+use crate::arcs::ArcRecord;
+use crate::places::PlaceRecord;
+use crate::records::put_records;
+use crate::terms::TermRecord;
 use crate::transitions::check_net;
 use netlayout::{Refusal, Tables, counts_in, tables_in};
 use nets::{Counts, Net};
@@ -22,9 +23,9 @@ fn filled(counts: Counts, tables: Tables) -> Result<Net, Refusal>
     ensures granted { IfOk result (λ n. n ≡ filled_net (blank_net counts) tables.entry.places.now tables.entry.arcs.now tables.entry.terms.now) }
 {
     let mut net = Net::blank(counts);
-    put_places(&mut net, tables.places)?;
-    put_arcs(&mut net, tables.arcs)?;
-    put_terms(&mut net, tables.terms)?;
+    put_records::<PlaceRecord, 5>(&mut net, tables.places)?;
+    put_records::<ArcRecord, 3>(&mut net, tables.arcs)?;
+    put_records::<TermRecord, 9>(&mut net, tables.terms)?;
     check_net(&net)?;
     Ok(net)
 }
