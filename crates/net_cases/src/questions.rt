@@ -21,7 +21,7 @@ impl<'a> Numbers<'a> {
 
     // The next number as a marking.
     fn marking(&mut self) -> Option<PlaceSet> {
-        Some(PlaceSet::from_word(self.word()?))
+        Some(PlaceSet::from(self.word()?))
     }
 
     // The next number as a line word.
@@ -61,7 +61,7 @@ fn played(heap: Global, net: &Net, numbers: &mut Numbers) -> Option<String> {
     let number = numbers.number()?;
     match tokengame::play(net, marking, lines, number) {
         Ok(after) => {
-            let word = after.word();
+            let word = u64::from(after);
             format!(in heap; "{word:x}").ok()
         }
         Err(refusal) => CodeText(refusal.code()).to_string(heap).ok(),
@@ -73,8 +73,8 @@ fn round(heap: Global, net: &Net, numbers: &mut Numbers) -> Option<String> {
     let marking = numbers.marking()?;
     let lines = numbers.lines()?;
     let outcome = tokengame::round(net, marking, lines);
-    let report = outcome.report.word();
-    let end = outcome.marking.word();
+    let report = u64::from(outcome.report);
+    let end = u64::from(outcome.marking);
     let outputs = tokengame::outputs(net, outcome.marking);
     format!(in heap; "{report:x} {end:x} {outputs:x}").ok()
 }

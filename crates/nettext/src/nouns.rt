@@ -56,7 +56,7 @@ impl Numbered {
     {
         Numbered {
             noun: Noun::Place,
-            word: set.word(),
+            word: u64::from(set),
         }
     }
 
