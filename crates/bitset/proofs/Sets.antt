@@ -270,7 +270,7 @@ none_below w k e q h =
 
 -- what comes first of the members is in w, and nothing below it is
 pub first_lowest : (w k p : ℕ) → first_of (members w k) ≡ Some p → (has w p ≡ true) × ((q : ℕ) → q < p → has w q ≡ false)
-first_lowest w zero p e = let z : ◌≡◌ {A = ℕ} 0 1 = cc in absurd (omega arith)
+first_lowest w zero p e = cc
 first_lowest w (suc k) p e = go (has w k) refl (members w k) refl (first_lowest w k p) e
   where
     go : (b : Bool) → has w k ≡ b → (l : List ℕ) → members w k ≡ l

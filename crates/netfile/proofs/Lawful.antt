@@ -99,7 +99,7 @@ module _ (t l : ℕ) (ts : List ℕ) where
 
 -- a list that is not empty
 pub some_in : {X : Type 0} (xs : List X) → none_in xs ≡ false → 1 ≤ length xs
-some_in [] e = let z : ◌≡◌ {A = ℕ} 0 1 = cc in absurd (omega arith)
+some_in [] e = cc
 some_in (x ∷ xs) e = omega arith
 
 -- not both are empty

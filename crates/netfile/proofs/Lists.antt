@@ -22,13 +22,13 @@ first_at f i (suc n) r h e g = ⊎_elim
 -- a joined list is empty where both are
 pub both_empty : {X : Type 0} (xs ys : List X) → xs ++ ys ≡ [] → (xs ≡ []) × (ys ≡ [])
 both_empty [] ys e = (refl, e)
-both_empty (x ∷ xs) ys e = let z : ◌≡◌ {A = ℕ} 0 1 = cc in absurd (omega arith)
+both_empty (x ∷ xs) ys e = cc
 
 -- two lists of which the same comes first, and then two more, that may rest on the second being empty
 pub joined_same : {X : Type 0} (a b c d : List X) → first_of a ≡ first_of b → (b ≡ [] → first_of c ≡ first_of d) → first_of (a ++ c) ≡ first_of (b ++ d)
 joined_same [] [] c d e h = h refl
-joined_same [] (y ∷ b) c d e h = let z : ◌≡◌ {A = ℕ} 0 1 = cc in absurd (omega arith)
-joined_same (x ∷ a) [] c d e h = let z : ◌≡◌ {A = ℕ} 0 1 = cc in absurd (omega arith)
+joined_same [] (y ∷ b) c d e h = cc
+joined_same (x ∷ a) [] c d e h = cc
 joined_same (x ∷ a) (y ∷ b) c d e h = e
 
 -- what is broken at each number in turn, told in two ways that agree as long as nothing was broken before
@@ -46,9 +46,9 @@ none_at f (suc k) e i h =
 
 -- a rule that is not broken, with those after it
 pub kept_rule : (b : Bool) (r : Refusal) (rest : List Refusal) → where_broken b r ++ rest ≡ [] → (b ≡ false) × (rest ≡ [])
-kept_rule true r rest e = let z : ◌≡◌ {A = ℕ} 0 1 = cc in absurd (omega arith)
+kept_rule true r rest e = cc
 kept_rule false r rest e = (refl, e)
 
 pub kept_last : (b : Bool) (r : Refusal) → where_broken b r ≡ [] → b ≡ false
-kept_last true r e = let z : ◌≡◌ {A = ℕ} 0 1 = cc in absurd (omega arith)
+kept_last true r e = cc
 kept_last false r e = refl

@@ -118,8 +118,8 @@ module _ (file : List ℕ) (c : Counts) (tells : Tells c file)
 -- a refusal that comes first, or none, tells whether the file is accepted
 pub accepted_from : (r : Result StoredNet Refusal) (l : List Refusal) → result_err r ≡ first_of l → is_ok r ≡ none_in l
 accepted_from (Ok n) [] e = refl
-accepted_from (Ok n) (x ∷ l) e = let z : ◌≡◌ {A = ℕ} 0 1 = cc in absurd (omega arith)
-accepted_from (Err y) [] e = let z : ◌≡◌ {A = ℕ} 0 1 = cc in absurd (omega arith)
+accepted_from (Ok n) (x ∷ l) e = cc
+accepted_from (Err y) [] e = cc
 accepted_from (Err y) (x ∷ l) e = refl
 
 -- all that the reader promises, from the first of what is broken and from the net of an accepted file

@@ -4,7 +4,6 @@ use mathlib.Core.Bool.{false≢true}
 use lib.Bits.{bit_or}
 use Rattle.std.proofs.lemmas.List.{drop_more}
 use Rattle.std.proofs.lemmas.Bool.{and_parts, and_from, or_cases, or_left, or_right, cases_lt}
-use Rattle.bitset.proofs.Lists.{none_some, some_same}
 use Rattle.bitset.specs.Sets.{within, apart, below}
 use Rattle.bitset.proofs.Sets.{apart_comm, within_left, within_right, within_both, apart_both, apart_parts, apart_by}
 use Rattle.nets.specs.declared.clash.Clash.{Clash}
@@ -23,7 +22,7 @@ one_of_two (Some y) p x e = inl e
 
 neither : {X : Type 0} (o p : Option X) → or_else o p ≡ None → (o ≡ None) × (p ≡ None)
 neither None p e = (refl, e)
-neither (Some y) p e = absurd (none_some (sym e))
+neither (Some y) p e = cc
 
 -- what the answer at the least number below k says
 abbrev Least : {X : Type 0} → (ℕ → Option X) → ℕ → Option X → Type 0
@@ -83,13 +82,13 @@ both_told c d w = go (apart (bit_or c.high d.high) (bit_or c.low d.low)) refl
   where
     go : (b : Bool) → apart (bit_or c.high d.high) (bit_or c.low d.low) ≡ b → cond b (Some (bit_or c.high d.high)) None ≡ Some w
         → (term_holds w c ≡ true) × (term_holds w d ≡ true) × ((b : ℕ) → within c.high b ≡ true → within d.high b ≡ true → within w b ≡ true)
-    go false e f = absurd (none_some f)
-    go true e f = subst (λ x. (term_holds x c ≡ true) × (term_holds x d ≡ true) × ((b : ℕ) → within c.high b ≡ true → within d.high b ≡ true → within x b ≡ true))
-        (some_same f) ((both_hold c d e).0, (both_hold c d e).1, within_both c.high d.high)
+    go false e f = cc
+    go true e f = let same : bit_or c.high d.high ≡ w = cc in subst (λ x. (term_holds x c ≡ true) × (term_holds x d ≡ true) × ((b : ℕ) → within c.high b ≡ true → within d.high b ≡ true → within x b ≡ true))
+        same ((both_hold c d e).0, (both_hold c d e).1, within_both c.high d.high)
 
 with_told : (c : Term) (ds : List Term) (w : ℕ) → lines_with c ds ≡ Some w
     → (term_holds w c ≡ true) × (condition w ds ≡ true) × ((b : ℕ) → within c.high b ≡ true → Highs b ds → within w b ≡ true)
-with_told c [] w e = absurd (none_some e)
+with_told c [] w e = cc
 with_told c (d ∷ ds) w e = ⊎_elim
     (λ f. let r = both_told c d w f in (r.0, or_left (term_holds w d) (condition w ds) r.1, λ b x y. r.2 b x (y 0 (omega arith))))
     (λ f. let r = with_told c ds w f in (r.0, or_right (term_holds w d) (condition w ds) r.1, λ b x y. r.2 b x (λ k l. y (suc k) (omega arith))))
@@ -97,7 +96,7 @@ with_told c (d ∷ ds) w e = ⊎_elim
 
 for_told : (cs ds : List Term) (w : ℕ) → lines_for cs ds ≡ Some w
     → (condition w cs ≡ true) × (condition w ds ≡ true) × ((b : ℕ) → Highs b cs → Highs b ds → within w b ≡ true)
-for_told [] ds w e = absurd (none_some e)
+for_told [] ds w e = cc
 for_told (c ∷ cs) ds w e = ⊎_elim
     (λ f. let r = with_told c ds w f in (or_left (term_holds w c) (condition w cs) r.0, r.1, λ b x y. r.2 b (x 0 (omega arith)) y))
     (λ f. let r = for_told cs ds w f in (or_right (term_holds w c) (condition w cs) r.0, r.1, λ b x y. r.2 b (λ k l. x (suc k) (omega arith)) y))
@@ -115,7 +114,7 @@ none_with c [] e w h k = false≢true k
 none_with c (d ∷ ds) e w h k =
     let n = neither (lines_of_both c d) (lines_with c ds) e in
     ⊎_elim
-    (λ f. none_some (sym n.0 ∙ ap (λ b. cond b (Some (bit_or c.high d.high)) None) (split c.high c.low d.high d.low w h f)))
+    (λ f. let told = sym n.0 ∙ ap (λ b. cond b (Some (bit_or c.high d.high)) None) (split c.high c.low d.high d.low w h f) in cc)
     (λ f. none_with c ds n.1 w h f)
     (or_cases (term_holds w d) (condition w ds) k)
 
@@ -148,12 +147,12 @@ between t u i j c = go (conflict t u && both_enabled t u) refl
   where
     at_lines : (o : Option ℕ) → lines_for t.terms u.terms ≡ o → (conflict t u && both_enabled t u) ≡ true → named i j (needs_of_both t u) o ≡ Some c
         → (w : ℕ) × (clash_at i j (needs_of_both t u) w ≡ c) × (conflict t u ≡ true) × (both_enabled t u ≡ true) × (lines_for t.terms u.terms ≡ Some w)
-    at_lines None f e g = absurd (none_some g)
-    at_lines (Some w) f e g = let p = and_parts (conflict t u) (both_enabled t u) e in (w, some_same g, p.0, p.1, f)
+    at_lines None f e g = cc
+    at_lines (Some w) f e g = let p = and_parts (conflict t u) (both_enabled t u) e in (w, cc, p.0, p.1, f)
 
     go : (b : Bool) → (conflict t u && both_enabled t u) ≡ b → cond b (named i j (needs_of_both t u) (lines_for t.terms u.terms)) None ≡ Some c
         → (w : ℕ) × (clash_at i j (needs_of_both t u) w ≡ c) × (conflict t u ≡ true) × (both_enabled t u ≡ true) × (lines_for t.terms u.terms ≡ Some w)
-    go false e f = absurd (none_some f)
+    go false e f = cc
     go true e f = at_lines (lines_for t.terms u.terms) refl e f
 
 none_between : (t u : Transition) (i j : ℕ) → clash_between t u i j ≡ None → (m w : ℕ)
@@ -168,7 +167,7 @@ none_between t u i j e m w k f g =
     go : (o : Option ℕ) → lines_for t.terms u.terms ≡ o → condition w t.terms ≡ true → condition w u.terms ≡ true
         → named i j (needs_of_both t u) o ≡ None → ⊥
     go None f h k g = none_for t.terms u.terms f w h k
-    go (Some x) f h k g = none_some (sym g)
+    go (Some x) f h k g = cc
 
 -- THE FIRST
 

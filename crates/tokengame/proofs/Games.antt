@@ -6,7 +6,7 @@ use Rattle.std.proofs.lemmas.Bool.{le-leb, lt-leb, lt-ltb, le-ltb, ltb-true, eq-
 use Rattle.bitset.specs.Lists.{first_of, none_in}
 use Rattle.bitset.specs.Room.{room, lowest_in}
 use Rattle.bitset.specs.Sets.{has, within, apart, without, below, members}
-use Rattle.bitset.proofs.Lists.{none_some, first_joined, first_past}
+use Rattle.bitset.proofs.Lists.{first_joined, first_past}
 use Rattle.bitset.proofs.Sets.{has_or, has_and, has-without, has_none, same_word, within_each, within_from, apart_each, apart_from, first_lowest}
 use Rattle.nets.specs.Firing.{condition, needs, forbids, enabled, hindering, can_fire}
 use Rattle.nets.specs.declared.transition.Transition.{Transition}
@@ -129,7 +129,7 @@ no_place false = refl
 lowest_told : (h p : ℕ) (b : Bool) (o : Option ℕ) → lowest_in h ≡ o
     → first_of (each_hindering h ++ where_so b ConditionFails) ≡ Some (NotEnabled p) → o ≡ Some p
 lowest_told h p b None e f =
-    absurd (none_some (sym (no_place b) ∙ ap place_of (sym (first_past (each_hindering h) (where_so b ConditionFails) (first_hindering h ∙ ap place_refusal e)) ∙ f)))
+    let told = sym (no_place b) ∙ ap place_of (sym (first_past (each_hindering h) (where_so b ConditionFails) (first_hindering h ∙ ap place_refusal e)) ∙ f) in cc
 lowest_told h p b (Some q) e f =
     ap place_of (sym (first_joined (each_hindering h) (where_so b ConditionFails) (NotEnabled q) (first_hindering h ∙ ap place_refusal e)) ∙ f)
 
@@ -176,12 +176,12 @@ module _ (n : Net) (m w t : ℕ) where
   lowest_place p e = ⊎_elim known_places unknown_places (cases_Bool (within m (below n.places)))
     where
       unknown_places : within m (below n.places) ≡ false → (has (hindering m (at n t)) p ≡ true) × ((q : ℕ) → q < p → has (hindering m (at n t)) q ≡ false)
-      unknown_places f = absurd (none_some (ap place_of (sym (unknown_place n m w t f) ∙ e)))
+      unknown_places f = let told = ap place_of (sym (unknown_place n m w t f) ∙ e) in cc
 
       known_places : within m (below n.places) ≡ true → (has (hindering m (at n t)) p ≡ true) × ((q : ℕ) → q < p → has (hindering m (at n t)) q ≡ false)
       known_places f = ⊎_elim
           (λ l. lowest_is (hindering m (at n t)) p (lowest_told (hindering m (at n t)) p (not (condition w (at n t).terms)) (lowest_in (hindering m (at n t))) refl (sym (known n m w t f l) ∙ e)))
-          (λ l. absurd (none_some (ap place_of (sym (unknown_transition n m w t f l) ∙ e))))
+          (λ l. let told = ap place_of (sym (unknown_transition n m w t f l) ∙ e) in cc)
           (cases_lt t (length n.transitions))
 
   pub game_laws : (within m (below n.places) ≡ true → t < length n.transitions → Listed (hindering m (at n t))) → GameLaws n m w t
