@@ -68,21 +68,6 @@ fn table_part<'a>(file: &'a [u8], table: Table, earliest: usize) -> Result<Part<
     Ok(Part { bytes, end })
 }
 
-// The three tables, or what is wrong with the first pair that is wrong.
-fn paired_tables(file: &[u8]) -> Result<Tables<'_>, Refusal>
-    ensures refused { result_err result ≡ first_of (pairs_broken file.now) }
-    ensures granted { IfOk result (λ t. (t.places.now ≡ table_in file.now Places) × (t.arcs.now ≡ table_in file.now Arcs) × (t.terms.now ≡ table_in file.now Terms)) }
-{
-    let places = table_part(file, Table::Places, SHORTEST)?;
-    let arcs = table_part(file, Table::Arcs, places.end)?;
-    let terms = table_part(file, Table::Terms, arcs.end)?;
-    Ok(Tables {
-        places: places.bytes,
-        arcs: arcs.bytes,
-        terms: terms.bytes,
-    })
-}
-
 // The three tables, or what is wrong with the file's size or with the first pair that is wrong.
 pub fn tables_in(file: &[u8]) -> Result<Tables<'_>, Refusal>
     ensures refused { result_err result ≡ first_of (size_broken file.now ++ pairs_broken file.now) }
@@ -91,7 +76,14 @@ pub fn tables_in(file: &[u8]) -> Result<Tables<'_>, Refusal>
     if !(SHORTEST..=LONGEST).contains(&file.len()) {
         return Err(Refusal::FileSize);
     }
-    paired_tables(file)
+    let places = table_part(file, Table::Places, SHORTEST)?;
+    let arcs = table_part(file, Table::Arcs, places.end)?;
+    let terms = table_part(file, Table::Terms, arcs.end)?;
+    Ok(Tables {
+        places: places.bytes,
+        arcs: arcs.bytes,
+        terms: terms.bytes,
+    })
 }
 
 // The counts in the file's first bytes, or the first that is out of range, or that the places table is of another length.
