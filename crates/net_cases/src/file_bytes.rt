@@ -1,6 +1,6 @@
 // The bytes of a file, as the tables write them in hexadecimal.
 use crate::split::head_and_rest;
-use crate::wrong::WrongParagraph;
+use crate::wrong_paragraph::WrongParagraph;
 use std::alloc::Global;
 use std::fs::Files;
 use std::{fs, io};

@@ -7,7 +7,7 @@ mod question;
 mod split;
 mod tally;
 mod trial;
-mod wrong;
+mod wrong_paragraph;
 
 use std::fs::Files;
 use std::{fs, io};

@@ -1,6 +1,6 @@
 // What the tables ask about a net.
 use crate::answer::Answer;
-use crate::wrong::WrongParagraph;
+use crate::wrong_paragraph::WrongParagraph;
 use bitset::PlaceSet;
 use netfile::Strictness;
 use nets::{Net, RefusalCode};
@@ -9,14 +9,12 @@ use std::str::{FromStr, SplitWhitespace};
 
 // The words of a question, one after the other.
 #[derive(Drop)]
-struct Words<'a> {
-    words: SplitWhitespace<'a>,
-}
+struct Words<'a>(SplitWhitespace<'a>);
 
 impl<'a> Words<'a> {
     // The next word.
     fn next(&mut self) -> Result<&'a str, WrongParagraph> {
-        self.words.next().ok_or(WrongParagraph)
+        self.0.next().ok_or(WrongParagraph)
     }
 
     // The next word as a marking, in hexadecimal.
@@ -60,9 +58,7 @@ impl FromStr for Question {
     type Err = WrongParagraph;
 
     fn from_str(text: &str) -> Result<Question, WrongParagraph> {
-        let mut words = Words {
-            words: text.split_whitespace(),
-        };
+        let mut words = Words(text.split_whitespace());
         match words.next()? {
             "plain" => Ok(Question::Check(Strictness::Plain)),
             "strict" => Ok(Question::Check(Strictness::Strict)),

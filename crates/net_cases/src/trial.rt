@@ -4,7 +4,7 @@ use crate::file_bytes::FileBytes;
 use crate::question::Question;
 use crate::split::head_and_rest;
 use crate::tally::Tally;
-use crate::wrong::WrongParagraph;
+use crate::wrong_paragraph::WrongParagraph;
 use netlayout::Refusal;
 use nets::Net;
 use nettext::{NetText, Reason};
@@ -49,7 +49,7 @@ impl Trial {
         Err(io::ErrorKind::InvalidData.into())
     }
 
-    // Takes a paragraph of a table.
+    // Takes a paragraph of a table; a match, since what follows each first word is read in its own way.
     pub fn take(
         &mut self,
         rt: &(impl Files + AllocGlobal + Print),

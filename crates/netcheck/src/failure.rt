@@ -3,7 +3,7 @@ use crate::command::HELP;
 use std::alloc::AllocError;
 use std::io;
 
-// What went wrong. No derived texts and conversions: a refusal has no text here, and a want of memory is told as one of input.
+// What went wrong. Texts and conversions are not derived: a refusal has no text here, and a want of memory is told as one of input and output.
 #[derive(Debug, Drop)]
 pub enum Failure {
     // The file breaks a rule, and standard output says which.
