@@ -13,14 +13,14 @@ pub enum Table {
 }
 
 impl Table {
-    // Its number in a refusal, which is also the number of its pair.
+    // Its number in a refusal, which is also that of its pair; a name and no `From`, since a table has other numbers too.
     pub fn number(self) -> usize
         ensures { result ≡ table_number self }
     {
         self as usize
     }
 
-    // How many bytes one of its records has.
+    // How many bytes one of its records has, by the file's layout.
     pub fn record_size(self) -> usize
         ensures { result ≡ record_size self }
     {

@@ -41,7 +41,7 @@ impl fmt::Display for PairText {
     }
 }
 
-// What is wrong with a count.
+// What is wrong with a count; the counts are the file's first bytes, in the order of the quantities' numbers.
 #[derive(Clone, Copy)]
 struct QuantityText(Quantity);
 
