@@ -3,8 +3,8 @@ use crate::command::HELP;
 use std::alloc::AllocError;
 use std::io;
 
-// What went wrong.
-#[derive(Drop)]
+// What went wrong. Texts and conversions are not derived: a refusal has no text here, and a want of memory is told as one of input and output.
+#[derive(Debug, Drop)]
 pub enum Failure {
     // The file breaks a rule, and standard output says which.
     Refused,
@@ -18,7 +18,7 @@ pub enum Failure {
 
 impl Failure {
     // Says on standard error what went wrong; what cannot be written there is let go.
-    pub fn report(&self, rt: &HostRuntime) {
+    pub fn report(&self, rt: &impl Eprint) {
         let _ = match self {
             Failure::Refused => Ok(()),
             Failure::Misuse => rt.eprint(HELP),

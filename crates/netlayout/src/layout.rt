@@ -24,7 +24,7 @@ struct Part<'a> {
 }
 
 // The bytes of the three tables.
-#[derive(Clone, Copy)]
+#[derive(Clone, Copy, Debug, PartialEq, Eq)]
 pub struct Tables<'a> {
     pub places: &'a [u8],
     pub arcs: &'a [u8],
@@ -35,10 +35,7 @@ pub struct Tables<'a> {
 fn byte_at(file: &[u8], at: usize) -> usize
     ensures { (result ≡ byte file.now at) × (result < 256) }
 {
-    match file.get(at) {
-        Some(value) => *value as usize,
-        None => 0,
-    }
+    file.get(at).map_or(0, |value| usize::from(*value))
 }
 
 // The number in the two bytes from `at`, the higher byte first.
@@ -59,23 +56,26 @@ fn table_part<'a>(file: &'a [u8], table: Table, earliest: usize) -> Result<Part<
     let start = half_at(file, place);
     let length = half_at(file, place + 2);
     let end = start + length;
-    let Some(_) = start.checked_sub(earliest) else {
+    if start < earliest {
         return Err(Refusal::Pair(table, PairFault::StartsEarly));
-    };
+    }
     let Some(bytes) = file.get(start..end) else {
         return Err(Refusal::Pair(table, PairFault::PassesEnd));
     };
-    let 0 = length % table.record_size() else {
+    if !length.is_multiple_of(table.record_size()) {
         return Err(Refusal::Pair(table, PairFault::BrokenRecord));
-    };
+    }
     Ok(Part { bytes, end })
 }
 
-// The three tables, or what is wrong with the first pair that is wrong.
-fn paired_tables(file: &[u8]) -> Result<Tables<'_>, Refusal>
-    ensures refused { result_err result ≡ first_of (pairs_broken file.now) }
+// The three tables, or what is wrong with the file's size or with the first pair that is wrong.
+pub fn tables_in(file: &[u8]) -> Result<Tables<'_>, Refusal>
+    ensures refused { result_err result ≡ first_of (size_broken file.now ++ pairs_broken file.now) }
     ensures granted { IfOk result (λ t. (t.places.now ≡ table_in file.now Places) × (t.arcs.now ≡ table_in file.now Arcs) × (t.terms.now ≡ table_in file.now Terms)) }
 {
+    if !(SHORTEST..=LONGEST).contains(&file.len()) {
+        return Err(Refusal::FileSize);
+    }
     let places = table_part(file, Table::Places, SHORTEST)?;
     let arcs = table_part(file, Table::Arcs, places.end)?;
     let terms = table_part(file, Table::Terms, arcs.end)?;
@@ -84,17 +84,6 @@ fn paired_tables(file: &[u8]) -> Result<Tables<'_>, Refusal>
         arcs: arcs.bytes,
         terms: terms.bytes,
     })
-}
-
-// The three tables, or what is wrong with the file's size or with the first pair that is wrong.
-pub fn tables_in(file: &[u8]) -> Result<Tables<'_>, Refusal>
-    ensures refused { result_err result ≡ first_of (size_broken file.now ++ pairs_broken file.now) }
-    ensures granted { IfOk result (λ t. (t.places.now ≡ table_in file.now Places) × (t.arcs.now ≡ table_in file.now Arcs) × (t.terms.now ≡ table_in file.now Terms)) }
-{
-    if file.len() < SHORTEST || file.len() > LONGEST {
-        return Err(Refusal::FileSize);
-    }
-    paired_tables(file)
 }
 
 // The counts in the file's first bytes, or the first that is out of range, or that the places table is of another length.
@@ -109,7 +98,7 @@ pub fn counts_in(file: &[u8]) -> Result<Counts, Refusal>
         byte_at(file, 3),
     )?;
     let length = half_at(file, Table::Places.pair_place() + 2);
-    if length != 5 * counts.places {
+    if length != Table::Places.record_size() * counts.places {
         return Err(Refusal::PlacesLength);
     }
     Ok(counts)

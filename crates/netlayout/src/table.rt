@@ -2,26 +2,25 @@
 ghost use Rattle.std.specs.Prelude.{◌≡◌};
 ghost use Rattle.netlayout.specs.Tables.{table_number, record_size, pair_place};
 
-#[derive(Clone, Copy)]
+use std::fmt;
+
+// Each has its number in a refusal.
+#[derive(Clone, Copy, Debug, PartialEq, Eq)]
 pub enum Table {
-    Places,
-    Arcs,
-    Terms,
+    Places = 1,
+    Arcs = 2,
+    Terms = 3,
 }
 
 impl Table {
-    // Its number in a refusal, which is also the number of its pair.
+    // Its number in a refusal, which is also that of its pair; a name and no `From`, since a table has other numbers too.
     pub fn number(self) -> usize
         ensures { result ≡ table_number self }
     {
-        match self {
-            Table::Places => 1,
-            Table::Arcs => 2,
-            Table::Terms => 3,
-        }
+        self as usize
     }
 
-    // How many bytes one of its records has.
+    // How many bytes one of its records has, by the file's layout.
     pub fn record_size(self) -> usize
         ensures { result ≡ record_size self }
     {
@@ -32,14 +31,20 @@ impl Table {
         }
     }
 
-    // Where in the file its pair of offset and length stands.
+    // Where in the file its pair of offset and length stands: the pairs of four bytes follow the four counts.
     pub(crate) fn pair_place(self) -> usize
         ensures { result ≡ pair_place self }
     {
-        match self {
-            Table::Places => 4,
-            Table::Arcs => 8,
-            Table::Terms => 12,
-        }
+        4 * self.number()
+    }
+}
+
+impl fmt::Display for Table {
+    fn fmt<W: fmt::Write>(&self, f: &mut fmt::Formatter<W>) -> fmt::Result {
+        f.write_str(match self {
+            Table::Places => "places table",
+            Table::Arcs => "arcs table",
+            Table::Terms => "terms table",
+        })
     }
 }

@@ -2,12 +2,15 @@
 ghost use Rattle.std.specs.Prelude.{◌≡◌};
 ghost use Rattle.nets.specs.Ranges.{most as the_most, in_range};
 
-#[derive(Clone, Copy)]
+use std::fmt;
+
+// Each has the index by which a refusal names it.
+#[derive(Clone, Copy, Debug, PartialEq, Eq)]
 pub enum Quantity {
-    Places,
-    Transitions,
-    Lines,
-    Outputs,
+    Places = 1,
+    Transitions = 2,
+    Lines = 3,
+    Outputs = 4,
 }
 
 impl Quantity {
@@ -25,6 +28,17 @@ impl Quantity {
     pub fn admits(self, count: usize) -> bool
         ensures { result ≡ in_range self count }
     {
-        1 <= count && count <= self.most()
+        (1..=self.most()).contains(&count)
+    }
+}
+
+impl fmt::Display for Quantity {
+    fn fmt<W: fmt::Write>(&self, f: &mut fmt::Formatter<W>) -> fmt::Result {
+        f.write_str(match self {
+            Quantity::Places => "places",
+            Quantity::Transitions => "transitions",
+            Quantity::Lines => "lines",
+            Quantity::Outputs => "outputs",
+        })
     }
 }

@@ -7,4 +7,4 @@ mod reason;
 
 pub use net_text::NetText;
 pub use nouns::{Counted, Noun};
-pub use reason::{CodeText, Reason};
+pub use reason::Reason;

@@ -1,57 +1,20 @@
-// Why a file is refused, in four numbers and in a sentence.
-ghost use Rattle.std.specs.Prelude.{◌++◌, Some, codes, decimal};
-
+// Why a file is refused, in a sentence.
 use crate::nouns::{Being, Counted, Noun, Numbered};
-use netlayout::{LONGEST, PairFault, RecordFault, Refusal, SHORTEST, Table};
-use nets::{Clash, Quantity, RefusalCode};
+use netlayout::{LONGEST, PairFault, Refusal, SHORTEST, Table};
+use nets::{Clash, Quantity};
 use std::fmt;
 
-// The four numbers of a refusal.
-#[derive(Clone, Copy)]
-pub struct CodeText(pub RefusalCode);
-
-impl fmt::Display for CodeText {
-    ghost output = { λ c. Some (decimal c.0.number ++ (codes " " ++ (decimal c.0.table ++ (codes " " ++ (decimal c.0.index ++ (codes " " ++ decimal c.0.second)))))) };
-
-    fn fmt<W: fmt::Write>(&self, f: &mut fmt::Formatter<W>) -> fmt::Result {
-        let RefusalCode {
-            number,
-            table,
-            index,
-            second,
-        } = self.0;
-        write!(f, "{number} {table} {index} {second}")
-    }
-}
-
-// The name of a table.
-fn name_of(table: Table) -> &'static str {
-    match table {
-        Table::Places => "places table",
-        Table::Arcs => "arcs table",
-        Table::Terms => "terms table",
-    }
-}
-
 // What a table may not start before.
-fn earliest_start(table: Table) -> &'static str {
-    match table {
-        Table::Places => "byte 16, inside the header",
-        Table::Arcs => "the end of the places table",
-        Table::Terms => "the end of the arcs table",
-    }
-}
+#[derive(Clone, Copy)]
+struct EarliestStart(Table);
 
-// What is wrong with a field of a record.
-fn field_fault(fault: RecordFault) -> &'static str {
-    match fault {
-        RecordFault::StartMark => "its start mark is neither 0 nor 1",
-        RecordFault::Output => "its raise word has an output that the net lacks",
-        RecordFault::Transition => "its transition is one that the net lacks",
-        RecordFault::Place => "its place is one that the net lacks",
-        RecordFault::Kind => "its kind is not 0, 1, 2 or 3",
-        RecordFault::HighLine => "its high word has a line that the net lacks",
-        RecordFault::LowLine => "its low word has a line that the net lacks",
+impl fmt::Display for EarliestStart {
+    fn fmt<W: fmt::Write>(&self, f: &mut fmt::Formatter<W>) -> fmt::Result {
+        match self.0 {
+            Table::Places => write!(f, "byte {SHORTEST}, inside the header"),
+            Table::Arcs => write!(f, "the end of the {}", Table::Places),
+            Table::Terms => write!(f, "the end of the {}", Table::Arcs),
+        }
     }
 }
 
@@ -62,53 +25,56 @@ struct PairText(Table, PairFault);
 impl fmt::Display for PairText {
     fn fmt<W: fmt::Write>(&self, f: &mut fmt::Formatter<W>) -> fmt::Result {
         let PairText(table, fault) = *self;
-        let name = name_of(table);
-        let earliest = earliest_start(table);
         let number = table.number();
-        let size = table.record_size();
-        write!(f, "Pair {number} is wrong: ")?;
+        write!(f, "Pair {number} is wrong: the {table} ")?;
         match fault {
-            PairFault::StartsEarly => write!(f, "the {name} starts before {earliest}."),
-            PairFault::PassesEnd => write!(f, "the {name} passes the end of the file."),
+            PairFault::StartsEarly => {
+                let earliest = EarliestStart(table);
+                write!(f, "starts before {earliest}.")
+            }
+            PairFault::PassesEnd => write!(f, "passes the end of the file."),
             PairFault::BrokenRecord => {
-                write!(
-                    f,
-                    "the {name} is not a whole number of records of {size} bytes."
-                )
+                let size = table.record_size();
+                write!(f, "is not a whole number of records of {size} bytes.")
             }
         }
     }
 }
 
-// What is wrong with a count.
+// What is wrong with a count; the counts are the file's first bytes, in the order of the quantities' numbers.
 #[derive(Clone, Copy)]
 struct QuantityText(Quantity);
 
 impl fmt::Display for QuantityText {
     fn fmt<W: fmt::Write>(&self, f: &mut fmt::Formatter<W>) -> fmt::Result {
-        let (byte, name) = match self.0 {
-            Quantity::Places => (0, "places"),
-            Quantity::Transitions => (1, "transitions"),
-            Quantity::Lines => (2, "lines"),
-            Quantity::Outputs => (3, "outputs"),
-        };
-        let most = self.0.most();
+        let quantity = self.0;
+        let byte = quantity as usize - 1;
+        let most = quantity.most();
         write!(
             f,
-            "The number of {name}, byte {byte}, is wrong: a net has 1 to {most}."
+            "The number of {quantity}, byte {byte}, is wrong: a net has 1 to {most}."
         )
     }
 }
 
-// A record of a table by its number, and what is wrong with it.
+// Two transitions that clash, and where both can fire.
 #[derive(Clone, Copy)]
-struct RecordText(Table, usize, &'static str);
+struct ClashText(Clash);
 
-impl fmt::Display for RecordText {
+impl fmt::Display for ClashText {
     fn fmt<W: fmt::Write>(&self, f: &mut fmt::Formatter<W>) -> fmt::Result {
-        let RecordText(table, index, fault) = *self;
-        let name = name_of(table);
-        write!(f, "Record {index} of the {name} is wrong: {fault}.")
+        let Clash {
+            lower,
+            higher,
+            marking,
+            lines,
+        } = self.0;
+        let marked = Being(Numbered(marking.into(), Noun::Place));
+        let high = Being(Numbered(lines.into(), Noun::Line));
+        write!(
+            f,
+            "Transitions {lower} and {higher} clash: they conflict, and both can fire where {marked} marked and {high} high."
+        )
     }
 }
 
@@ -127,25 +93,14 @@ const PLACES_LENGTH: &str = "The places table does not have 5 bytes for each pla
 // That no token is in the net to begin with.
 const NO_START_PLACE: &str = "No place is marked at the start.";
 
-// Two transitions that clash, and where both can fire.
-#[derive(Clone, Copy)]
-struct ClashText(Clash);
-
-impl fmt::Display for ClashText {
-    fn fmt<W: fmt::Write>(&self, f: &mut fmt::Formatter<W>) -> fmt::Result {
-        let Clash {
-            lower,
-            higher,
-            marking,
-            lines,
-        } = self.0;
-        let marked = Being(Numbered::places(marking));
-        let high = Being(Numbered::lines(lines));
-        write!(
-            f,
-            "Transitions {lower} and {higher} clash: they conflict, and both can fire where {marked} marked and {high} high."
-        )
-    }
+// Writes which record of a table is wrong, and what is wrong with it.
+fn write_record<W: fmt::Write, D: fmt::Display + Drop>(
+    f: &mut fmt::Formatter<W>,
+    table: Table,
+    index: usize,
+    fault: D,
+) -> fmt::Result {
+    write!(f, "Record {index} of the {table} is wrong: {fault}.")
 }
 
 // The sentence on a refusal of a file of so many bytes.
@@ -168,10 +123,10 @@ impl fmt::Display for Reason {
             Refusal::Pair(table, fault) => f.write(PairText(table, fault)),
             Refusal::Count(quantity) => f.write(QuantityText(quantity)),
             Refusal::PlacesLength => f.write_str(PLACES_LENGTH),
-            Refusal::Record(table, i, fault) => f.write(RecordText(table, i, field_fault(fault))),
-            Refusal::RepeatedArc(i) => f.write(RecordText(Table::Arcs, i, REPEATED_ARC)),
-            Refusal::LineInBothWords(i) => f.write(RecordText(Table::Terms, i, LINE_IN_BOTH_WORDS)),
-            Refusal::FifthTerm(i) => f.write(RecordText(Table::Terms, i, FIFTH_TERM)),
+            Refusal::Record(table, i, fault) => write_record(f, table, i, fault),
+            Refusal::RepeatedArc(i) => write_record(f, Table::Arcs, i, REPEATED_ARC),
+            Refusal::LineInBothWords(i) => write_record(f, Table::Terms, i, LINE_IN_BOTH_WORDS),
+            Refusal::FifthTerm(i) => write_record(f, Table::Terms, i, FIFTH_TERM),
             Refusal::MovesNothing(t) => {
                 write!(f, "Transition {t} neither consumes nor produces a place.")
             }

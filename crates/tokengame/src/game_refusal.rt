@@ -4,7 +4,7 @@ ghost use Rattle.tokengame.specs.Games.{game_code};
 
 use nets::RefusalCode;
 
-#[derive(Clone, Copy)]
+#[derive(Clone, Copy, Debug, PartialEq, Eq)]
 pub enum GameRefusal {
     // The marking has a place that the net lacks.
     UnknownPlace,
@@ -16,12 +16,11 @@ pub enum GameRefusal {
     ConditionFails,
 }
 
-impl GameRefusal {
-    // The refusal by its number, table, index and second.
-    pub fn code(self) -> RefusalCode
-        ensures { result ≡ game_code self }
-    {
-        let (index, second) = match self {
+impl From<GameRefusal> for RefusalCode {
+    ghost from_gives = { λ refusal code. code ≡ game_code refusal };
+
+    fn from(refusal: GameRefusal) -> RefusalCode {
+        let (index, second) = match refusal {
             GameRefusal::UnknownPlace => (1, 0),
             GameRefusal::UnknownTransition => (2, 0),
             GameRefusal::NotEnabled(place) => (3, place),
