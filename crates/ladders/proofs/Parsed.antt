@@ -13,22 +13,9 @@ use Rattle.ladders.specs.declared.step.Step.{Step}
 use Rattle.ladders.specs.Grammar.{coil_fits, position_after, next}
 use Rattle.ladders.specs.Ladders.{Whole}
 use Rattle.ladders.specs.Rungs.{Contact, Row, Store, puts, sets, resets, Rung, joined_steps, group_steps, store_op, rungs_steps, ContactExists, RowExists, RungExists}
-use Rattle.ladders.specs.Steps.{role_of, step}
+use Rattle.ladders.specs.Steps.{role_of, inverts, step}
 use Rattle.ladders.proofs.Named.{chosen}
 use Rattle.ladders.proofs.Walks.{reach, first_stands}
-
--- whether an operation takes the inverse of its coil
-abbrev inverts : Op → Bool
-inverts Ld = false
-inverts Ldn = true
-inverts And = false
-inverts Andn = true
-inverts Or = false
-inverts Orn = true
-inverts Close = false
-inverts St = false
-inverts S = false
-inverts R = false
 
 -- what a storing operation makes of the result
 abbrev store_of : Op → Store

@@ -2,6 +2,7 @@
 use Rattle.std.specs.Prelude.{◌≡◌, ℕ, ◌+◌, ◌-◌, cond, is_some, Some, None, Option, nat_lt}
 use Rattle.ladders.specs.declared.coil.Coil.{Coil}
 use Rattle.ladders.specs.declared.coil.Coil.TheVariants.{Line, Start, Place, Transition, Output}
+use Rattle.ladders.specs.declared.coil.NoSuchCoil.{NoSuchCoil}
 
 -- a number, if there are so many
 abbrev pub if_below : ℕ → ℕ → ℕ → Option ℕ
@@ -23,6 +24,10 @@ coil_numbered k =
     (cond (nat_lt k 97) (Some (Place (k - 33)))
     (cond (nat_lt k 161) (Some (Transition (k - 97)))
     (cond (nat_lt k 193) (Some (Output (k - 161))) None))))
+
+-- the error where there is no such coil
+abbrev pub no_such_coil : NoSuchCoil
+no_such_coil = record {}
 
 -- each number below 193 is that of one coil, and each coil has a number of its own
 pub record CoilNames : Type 0 where

@@ -4,18 +4,18 @@ ghost use Rattle.ladders.specs.Flows.{stored, flow_past, written, ran};
 ghost use Rattle.ladders.specs.Grammar.{grammar};
 
 use crate::flow::Flow;
-use crate::step::{Op, Role, Step};
+use crate::step::{Op, Step};
 use levels::Level;
 
-// What a storing operation leaves on a coil at level `x`.
-fn stored_level<L: Level>(op: Op, outcome: L, x: L) -> L
+// What an operation stores in a coil at level `x`, if it stores.
+fn stored_level<L: Level>(op: Op, outcome: L, x: L) -> Option<L>
     ensures { result ≡ stored L.operations op outcome x }
 {
     match op {
-        Op::St => outcome,
-        Op::S => x.either(outcome),
-        Op::R => x.both(outcome.inverse()),
-        _ => x,
+        Op::St => Some(outcome),
+        Op::S => Some(x.either(outcome)),
+        Op::R => Some(x.both(outcome.inverse())),
+        _ => None,
     }
 }
 
@@ -27,8 +27,8 @@ pub(crate) fn take_step<L: Level>(flow: Flow<L>, step: Step, coils: &mut [L]) ->
 {
     let coil = step.coil as usize;
     let x = coils[coil];
-    if matches!(step.op.role(), Role::Stores) {
-        coils[coil] = stored_level(step.op, flow.result, x);
+    if let Some(level) = stored_level(step.op, flow.result, x) {
+        coils[coil] = level;
     }
     flow.after(step.op, x)
 }
