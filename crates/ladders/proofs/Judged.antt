@@ -2,10 +2,11 @@
 use Rattle.std.proofs.Common.{◌≡◌, ℕ, suc, ◌+◌, ◌<◌, ◌≤◌, Bool, true, false, cond, ltb, ◌⊎◌, List, [], ◌∷◌, ◌++◌, length, take, drop, Some, None, Ok, Err, Option, Result, sym, refl, ap, ◌∙◌, subst, inl, inr, add-one, arith}
 use Rattle.std.proofs.lemmas.List.{append_assoc, take-append-drop, take-take}
 use Rattle.std.proofs.lemmas.Bool.Decides.{nat_tests}
+use Rattle.ladders.specs.declared.grammar.Fault.{Fault}
 use Rattle.ladders.specs.declared.grammar.Position.{Position}
 use Rattle.ladders.specs.declared.grammar.Position.TheVariants.{First, Series, Group, Groups}
 use Rattle.ladders.specs.declared.step.Step.{Step}
-use Rattle.ladders.specs.Grammar.{next, next_at, ended, onward, from, grammar}
+use Rattle.ladders.specs.Grammar.{next, next_at, fault, ended, onward, from, grammar}
 use Rattle.ladders.specs.Ladders.{Whole, IsLadder, Begun, FailsAt, Judged}
 use Rattle.ladders.proofs.Named.{chosen, went_on}
 use Rattle.ladders.proofs.Parsed.{reached_whole}
@@ -55,13 +56,17 @@ record Failed (p : Position) (i : ℕ) (ss : List Step) (j : ℕ) : Type 0 where
 abbrev FailedFrom : Position → ℕ → List Step → ℕ → Type 0
 FailedFrom p i ss k = (j : ℕ) × (k ≡ i + j) × Failed p i ss j
 
+-- the same fault is at the same index
+same_index : (i k : ℕ) → ◌≡◌ {A = Result (Unit {0}) Fault} (Err (fault i)) (Err (fault k)) → i ≡ k
+same_index i k e = let same : fault i ≡ fault k = cc in ap (λ (f : Fault). f.index) same
+
 -- steps that end in mid-rung
-cut_off : (p : Position) (i k : ℕ) → (p ≡ First → ⊥) → ◌≡◌ {A = Result (Unit {0}) ℕ} (Err i) (Err k) → FailedFrom p i [] k
+cut_off : (p : Position) (i k : ℕ) → (p ≡ First → ⊥) → ◌≡◌ {A = Result (Unit {0}) Fault} (Err (fault i)) (Err (fault k)) → FailedFrom p i [] k
 cut_off p i k mid e =
-    let same : k ≡ i = cc in
+    let same = same_index i k e in
     (0, omega arith, record { within = omega arith; few = λ h. omega arith; at = p; before = refl; here = inl (refl, λ d. mid (cc)) })
 
-failed_none : (p : Position) (i k : ℕ) → ended p i ≡ Err k → FailedFrom p i [] k
+failed_none : (p : Position) (i k : ℕ) → ended p i ≡ Err (fault k) → FailedFrom p i [] k
 failed_none First i k e = cc
 failed_none Series i k e = cut_off Series i k (λ d. cc) e
 failed_none Group i k e = cut_off Group i k (λ d. cc) e
@@ -108,13 +113,13 @@ fails_later p q i k s ss e (j, same, f) =
     )
 
 fails_one_way : (p : Position) (i k : ℕ) (s : Step) (ss : List Step) (o : Option Position) → next_at i p s ≡ o
-    → onward o i (λ q. from q (i + 1) ss) ≡ Err k
-    → ((q : Position) → from q (i + 1) ss ≡ Err k → FailedFrom q (i + 1) ss k)
+    → onward o i (λ q. from q (i + 1) ss) ≡ Err (fault k)
+    → ((q : Position) → from q (i + 1) ss ≡ Err (fault k) → FailedFrom q (i + 1) ss k)
     → FailedFrom p i (s ∷ ss) k
-fails_one_way p i k s ss None t e ih = fails_here p i k s ss t (cc)
+fails_one_way p i k s ss None t e ih = fails_here p i k s ss t (same_index i k e)
 fails_one_way p i k s ss (Some q) t e ih = fails_later p q i k s ss t (ih q e)
 
-failed : (ss : List Step) (p : Position) (i k : ℕ) → from p i ss ≡ Err k → FailedFrom p i ss k
+failed : (ss : List Step) (p : Position) (i k : ℕ) → from p i ss ≡ Err (fault k) → FailedFrom p i ss k
 failed [] p i k e = failed_none p i k e
 failed (s ∷ ss) p i k e = fails_one_way p i k s ss (next_at i p s) refl e (λ q. failed ss q (i + 1) k)
 
@@ -134,7 +139,7 @@ accepted ss e = (reached_whole ss (ok_reaches ss First 0 e), (let l = ok_short s
 each_accepted : (ss : List Step) → IsLadder ss → grammar ss ≡ Ok tt
 each_accepted ss (w, short) = reaches_ok ss First 0 (whole_reaches ss w) (omega arith)
 
-refused : (ss : List Step) (i : ℕ) → grammar ss ≡ Err i → FailsAt ss i
+refused : (ss : List Step) (i : ℕ) → grammar ss ≡ Err (fault i) → FailsAt ss i
 refused ss i e = told (failed ss First 0 i e)
   where
     told : FailedFrom First 0 ss i → FailsAt ss i
@@ -182,18 +187,19 @@ not_twice ss i j f g h =
       | inr v ↦ elim v.1 [ inl most ↦ omega arith | inr none ↦ none (begun_fewer ss (i + 1) j (omega arith) g.not_before) ]
     ]
 
-each_refused : (ss : List Step) (i : ℕ) → FailsAt ss i → grammar ss ≡ Err i
+each_refused : (ss : List Step) (i : ℕ) → FailsAt ss i → grammar ss ≡ Err (fault i)
 each_refused ss i f = told (grammar ss) refl
   where
-    told : (r : Result (Unit {0}) ℕ) → grammar ss ≡ r → grammar ss ≡ Err i
+    told : (r : Result (Unit {0}) Fault) → grammar ss ≡ r → grammar ss ≡ Err (fault i)
     told (Ok tt) e = absurd (no_failure ss i (accepted ss e) f)
-    told (Err j) e =
+    told (Err f') e =
+        let j = f'.index in
         let g = refused ss j e in
         let same : j ≡ i = not_apart j i (not_twice ss j i g f) (not_twice ss i j f g) in
-        e ∙ ap Err same
+        e ∙ ap (λ (v : ℕ). Err (fault v)) same
 
 -- the grammar's answer tells whether the steps are a ladder, and where they fail
-pub judged : (ss : List Step) (r : Result (Unit {0}) ℕ) → r ≡ grammar ss → Judged ss r
+pub judged : (ss : List Step) (r : Result (Unit {0}) Fault) → r ≡ grammar ss → Judged ss r
 judged ss r e =
     record {
       accepted = λ h. accepted ss (sym e ∙ h);

@@ -1,6 +1,7 @@
 -- Each step of a ladder names one of the 193 coils.
 use Rattle.std.proofs.Common.{◌≡◌, ℕ, zero, suc, ◌+◌, ◌<◌, Bool, true, false, cond, ltb, List, [], ◌∷◌, length, get_or, Some, None, Ok, Option, Result, refl, le_of_suc-le-suc, not-suc-le-zero, arith}
 use Rattle.std.proofs.lemmas.Bool.Decides.{nat_tests}
+use Rattle.ladders.specs.declared.grammar.Fault.{Fault}
 use Rattle.ladders.specs.declared.grammar.Position.{Position}
 use Rattle.ladders.specs.declared.grammar.Position.TheVariants.{First}
 use Rattle.ladders.specs.declared.step.Role.{Role}
@@ -22,7 +23,7 @@ chosen true o x e = (refl, e)
 chosen false o x e = cc
 
 -- where the walk goes on, the step stands
-pub went_on : (o : Option Position) (i : ℕ) (rest : Position → Result (Unit {0}) ℕ) → onward o i rest ≡ Ok tt → (q : Position) × ((o ≡ Some q) × (rest q ≡ Ok tt))
+pub went_on : (o : Option Position) (i : ℕ) (rest : Position → Result (Unit {0}) Fault) → onward o i rest ≡ Ok tt → (q : Position) × ((o ≡ Some q) × (rest q ≡ Ok tt))
 went_on (Some q) i rest e = (q, (refl, e))
 went_on None i rest e = cc
 

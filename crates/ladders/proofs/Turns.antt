@@ -3,10 +3,11 @@ use Rattle.std.proofs.Common.{◌≡◌, ℕ, ◌+◌, ◌<◌, List, length, ge
 use Rattle.std.proofs.lemmas.List.{at_drop_more}
 use Rattle.levels.specs.Levels.{Operations}
 use Rattle.ladders.specs.declared.flow.Flow.{Flow}
+use Rattle.ladders.specs.declared.grammar.Fault.{Fault}
 use Rattle.ladders.specs.declared.grammar.Position.{Position}
 use Rattle.ladders.specs.declared.step.Step.{Step}
 use Rattle.ladders.specs.Flows.{through, written, flow_past}
-use Rattle.ladders.specs.Grammar.{from, next_at, onward}
+use Rattle.ladders.specs.Grammar.{fault, from, next_at, onward}
 
 -- the step of index i, which stands at p, is read
 module _ (p : Position) (i : ℕ) (ss : List Step) (d : Step) (h : i < length ss) where
@@ -16,7 +17,7 @@ module _ (p : Position) (i : ℕ) (ss : List Step) (d : Step) (h : i < length ss
   pub stands : (q : Position) → next_at i p (get_or ss i d) ≡ Some q → from p i (drop i ss) ≡ from q (i + 1) (drop (i + 1) ss)
   stands q e = turn (Some q) e
 
-  pub fails : next_at i p (get_or ss i d) ≡ None → from p i (drop i ss) ≡ Err i
+  pub fails : next_at i p (get_or ss i d) ≡ None → from p i (drop i ss) ≡ Err (fault i)
   fails e = turn None e
 
 -- the step of index i is taken

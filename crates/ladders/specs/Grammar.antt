@@ -1,5 +1,6 @@
 -- Where steps fail to be a ladder, found step by step. Ladders.antt says the same by the form of rungs.
 use Rattle.std.specs.Prelude.{ℕ, ◌+◌, Bool, cond, ◌&&◌, List, [], ◌∷◌, Some, None, Ok, Err, Option, Result, ◌==◌, nat_le, nat_lt}
+use Rattle.ladders.specs.declared.grammar.Fault.{Fault}
 use Rattle.ladders.specs.declared.grammar.Position.{Position}
 use Rattle.ladders.specs.declared.grammar.Position.TheVariants.{First, Series, Group, Groups}
 use Rattle.ladders.specs.declared.step.Role.{Role}
@@ -62,23 +63,25 @@ next p s = cond (coil_fits (role_of s.op) s.coil) (position_after p (role_of s.o
 abbrev pub next_at : ℕ → Position → Step → Option Position
 next_at i p s = cond (nat_lt i 2048) (next p s) None
 
+-- a fault at an index
+abbrev pub fault : ℕ → Fault
+fault i = record { index = i }
+
 -- the answer where the steps end, n of them
-abbrev pub ended : Position → ℕ → Result (Unit {0}) ℕ
+abbrev pub ended : Position → ℕ → Result (Unit {0}) Fault
 ended First n = Ok tt
-ended Series n = Err n
-ended Group n = Err n
-ended Groups n = Err n
+ended _ n = Err (fault n)
 
 -- the answer at the step of index i, which may have no place
-abbrev pub onward : Option Position → ℕ → (Position → Result (Unit {0}) ℕ) → Result (Unit {0}) ℕ
-onward None i rest = Err i
+abbrev pub onward : Option Position → ℕ → (Position → Result (Unit {0}) Fault) → Result (Unit {0}) Fault
+onward None i rest = Err (fault i)
 onward (Some p) i rest = rest p
 
 -- the answer from the step of index i on, which stands at p
-abbrev pub from : Position → ℕ → List Step → Result (Unit {0}) ℕ
+abbrev pub from : Position → ℕ → List Step → Result (Unit {0}) Fault
 from p i [] = ended p i
 from p i (s ∷ ss) = onward (next_at i p s) i (λ q. from q (i + 1) ss)
 
 -- Ok of a ladder, else the index of the first step that cannot stand, or the count where the last rung is cut off
-abbrev pub grammar : List Step → Result (Unit {0}) ℕ
+abbrev pub grammar : List Step → Result (Unit {0}) Fault
 grammar ss = from First 0 ss

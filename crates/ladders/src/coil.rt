@@ -1,5 +1,5 @@
 // The coils by name, and their numbers: lines, the start coil, places, transitions, outputs, one after the other.
-ghost use Rattle.std.specs.Prelude.{◌≡◌};
+ghost use Rattle.std.specs.Prelude.{◌≡◌, Some, codes};
 ghost use Rattle.std.specs.Option.{ok_or};
 ghost use Rattle.ladders.specs.Coils.{coil_numbered, number_of, no_such_coil};
 
@@ -44,6 +44,8 @@ pub enum Coil {
 pub struct NoSuchCoil;
 
 impl fmt::Display for NoSuchCoil {
+    ghost output = { λ _. Some (codes "there is no such coil") };
+
     fn fmt<W: fmt::Write>(&self, f: &mut fmt::Formatter<W>) -> fmt::Result {
         f.write_str("there is no such coil")
     }
