@@ -1,8 +1,9 @@
 // The run of steps over coils of any kind of level.
-ghost use Rattle.std.specs.Prelude.{◌≡◌, ◌<◌, length, Ok};
+ghost use Rattle.std.specs.Prelude.{◌≡◌, ◌<◌, Ok};
 ghost use Rattle.ladders.specs.Flows.{stored, flow_past, written, ran};
 ghost use Rattle.ladders.specs.Grammar.{grammar};
 
+use crate::coil::COILS;
 use crate::flow::Flow;
 use crate::step::{Op, Step};
 use levels::Level;
@@ -20,8 +21,8 @@ fn stored_level<L: Level>(op: Op, outcome: L, x: L) -> Option<L>
 }
 
 // One step: the flow after it, and what it stores.
-pub(crate) fn take_step<L: Level>(flow: Flow<L>, step: Step, coils: &mut [L]) -> Flow<L>
-    requires { step.coil < length coils.old }
+pub(crate) fn take_step<L: Level>(flow: Flow<L>, step: Step, coils: &mut [L; COILS as usize]) -> Flow<L>
+    requires { step.coil < COILS }
     ensures flow { result ≡ flow_past L.operations step coils.old flow }
     ensures coils { coils.new ≡ written L.operations step coils.old flow }
 {
@@ -33,10 +34,9 @@ pub(crate) fn take_step<L: Level>(flow: Flow<L>, step: Step, coils: &mut [L]) ->
     flow.after(step.op, x)
 }
 
-// Every step of a ladder in turn, over 193 coils.
-pub(crate) fn run_steps<L: Level>(steps: &[Step], coils: &mut [L])
-    requires whole { grammar steps.now ≡ Ok tt }
-    requires count { length coils.old ≡ 193 }
+// Every step of a ladder in turn.
+pub(crate) fn run_steps<L: Level>(steps: &[Step], coils: &mut [L; COILS as usize])
+    requires { grammar steps.now ≡ Ok tt }
     ensures { coils.new ≡ ran L.operations steps.now coils.old }
 {
     let mut flow = Flow::none();
