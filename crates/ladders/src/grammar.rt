@@ -86,6 +86,7 @@ fn at_end(position: Position, count: usize) -> Result<(), Fault>
 fn first_fault(steps: &[Step]) -> Result<(), Fault>
     ensures { result ≡ grammar steps.now }
 {
+    // No `try_fold`: it reads no plainer than a `for` with `?`, and the proof of its answer stayed open.
     let mut position = Position::First;
     for (index, step) in steps.iter().enumerate() {
         position = next_at(index, position, *step).ok_or(Fault { index })?;

@@ -39,6 +39,7 @@ pub(crate) fn run_steps<L: Level>(steps: &[Step], coils: &mut [L; COILS as usize
     requires { grammar steps.now ≡ Ok tt }
     ensures { coils.new ≡ ran L.operations steps.now coils.old }
 {
+    // No `fold`: its closure would write the coils, and the proof then knows nothing of what it did to them.
     let mut flow = Flow::none();
     for step in steps {
         flow = take_step(flow, *step, coils);
