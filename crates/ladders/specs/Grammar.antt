@@ -10,50 +10,21 @@ use Rattle.ladders.specs.Steps.{role_of}
 
 -- a step of this role may name the coil of this number
 abbrev pub coil_fits : Role → ℕ → Bool
-coil_fits Loads n = nat_lt n 193
-coil_fits Joins n = nat_lt n 193
-coil_fits Opens n = nat_lt n 193
 coil_fits Closes n = n == 0
 coil_fits Stores n = nat_le 32 n && nat_lt n 193
-
--- a rung begins with a load
-abbrev after_first : Role → Option Position
-after_first Loads = Some Series
-after_first Joins = None
-after_first Opens = None
-after_first Closes = None
-after_first Stores = None
-
--- after the load and what is joined to it: more of these, a group or the store
-abbrev after_series : Role → Option Position
-after_series Loads = None
-after_series Joins = Some Series
-after_series Opens = Some Group
-after_series Closes = None
-after_series Stores = Some First
-
--- in a group: more that is joined to it, or its end
-abbrev after_in_group : Role → Option Position
-after_in_group Loads = None
-after_in_group Joins = Some Group
-after_in_group Opens = None
-after_in_group Closes = Some Groups
-after_in_group Stores = None
-
--- after a group: another group or the store
-abbrev after_groups : Role → Option Position
-after_groups Loads = None
-after_groups Joins = None
-after_groups Opens = Some Group
-after_groups Closes = None
-after_groups Stores = Some First
+coil_fits _ n = nat_lt n 193
 
 -- where the step after one of this role stands, if such a step may stand here
 abbrev pub position_after : Position → Role → Option Position
-position_after First = after_first
-position_after Series = after_series
-position_after Group = after_in_group
-position_after Groups = after_groups
+position_after First Loads = Some Series
+position_after Series Joins = Some Series
+position_after Series Opens = Some Group
+position_after Series Stores = Some First
+position_after Group Joins = Some Group
+position_after Group Closes = Some Groups
+position_after Groups Opens = Some Group
+position_after Groups Stores = Some First
+position_after _ _ = None
 
 -- where the step after this one stands, if this one may stand here
 abbrev pub next : Position → Step → Option Position
