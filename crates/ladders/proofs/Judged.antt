@@ -1,5 +1,5 @@
 -- The grammar's answer tells whether steps are a ladder, and where they fail to be one.
-use Rattle.std.proofs.Common.{◌≡◌, ℕ, suc, ◌+◌, ◌<◌, ◌≤◌, Bool, true, false, cond, ltb, ◌⊎◌, List, [], ◌∷◌, ◌++◌, length, take, drop, Some, None, Ok, Err, Option, Result, sym, refl, ap, ◌∙◌, subst, inl, inr, add-one, arith}
+use Rattle.std.proofs.Common.{rules, ◌≡◌, ℕ, suc, ◌+◌, ◌<◌, ◌≤◌, Bool, true, false, cond, ltb, ◌⊎◌, List, [], ◌∷◌, ◌++◌, length, take, drop, Some, None, Ok, Err, Option, Result, sym, refl, ap, ◌∙◌, subst, inl, inr, add-one, arith}
 use Rattle.std.proofs.lemmas.List.{append_assoc, take-append-drop, take-take}
 use Rattle.std.proofs.lemmas.Bool.Decides.{nat_tests}
 use Rattle.ladders.specs.declared.grammar.Fault.{Fault}
@@ -14,10 +14,7 @@ use Rattle.ladders.proofs.Walks.{on_from, reach, reach_append, first_stands, end
 use Rattle.ladders.proofs.Written.{whole_reaches}
 
 ended_ok : (p : Position) (i : ℕ) → ended p i ≡ Ok tt → p ≡ First
-ended_ok First i e = refl
-ended_ok Series i e = cc
-ended_ok Group i e = cc
-ended_ok Groups i e = cc
+ended_ok p i e = search rules
 
 below_most : (i : ℕ) → ltb i 2048 ≡ true → i < 2048
 below_most i e = grind (arith, nat_tests)

@@ -11,11 +11,7 @@ use Rattle.ladders.specs.Grammar.{coil_fits, position_after, next, next_at, onwa
 use Rattle.ladders.specs.Steps.{role_of}
 
 below : (r : Role) (n : ℕ) → coil_fits r n ≡ true → n < 193
-below Loads n e = grind (arith, nat_tests)
-below Joins n e = grind (arith, nat_tests)
-below Opens n e = grind (arith, nat_tests)
-below Closes n e = grind (arith, nat_tests)
-below Stores n e = grind (arith, nat_tests)
+below r n e = grind (arith, nat_tests)
 
 -- a choice that is something was made
 pub chosen : {X : Type 0} (b : Bool) (o : Option X) (x : X) → cond b o None ≡ Some x → (b ≡ true) × (o ≡ Some x)

@@ -1,5 +1,5 @@
 -- Steps that are walked along to the end are whole rungs.
-use Rattle.std.proofs.Common.{◌≡◌, ℕ, ◌<◌, ◌≤◌, Bool, true, false, cond, ◌&&◌, eqb, ltb, leb, List, [], ◌∷◌, ◌++◌, Some, sym, refl, ap, ◌∙◌, subst, arith}
+use Rattle.std.proofs.Common.{rules, ◌≡◌, ℕ, ◌<◌, ◌≤◌, Bool, true, false, cond, ◌&&◌, eqb, ltb, leb, List, [], ◌∷◌, ◌++◌, Some, sym, refl, ap, ◌∙◌, subst, arith}
 use Rattle.std.proofs.lemmas.List.{append_assoc}
 use Rattle.std.proofs.lemmas.Bool.Decides.{nat_tests}
 use Rattle.std.specs.List.{flat_map, AllByRecursion}
@@ -39,16 +39,7 @@ spelled Closes b s = Close
 spelled Stores b s = store_op s
 
 is_spelled : (o : Op) → o ≡ spelled (role_of o) (inverts o) (store_of o)
-is_spelled Ld = refl
-is_spelled Ldn = refl
-is_spelled And = refl
-is_spelled Andn = refl
-is_spelled Or = refl
-is_spelled Orn = refl
-is_spelled Close = refl
-is_spelled St = refl
-is_spelled S = refl
-is_spelled R = refl
+is_spelled o = search rules
 
 -- a step by its role
 step_spelled : (s : Step) (r : Role) → role_of s.op ≡ r → s ≡ step (spelled r (inverts s.op) (store_of s.op)) s.coil

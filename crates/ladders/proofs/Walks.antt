@@ -1,5 +1,5 @@
 -- The walk along steps from a position, free of indices.
-use Rattle.std.proofs.Common.{◌≡◌, true, List, [], ◌∷◌, ◌++◌, Some, None, Option, refl, ap}
+use Rattle.std.proofs.Common.{rules, ◌≡◌, true, List, [], ◌∷◌, ◌++◌, Some, None, Option, refl, ap}
 use Rattle.ladders.specs.declared.grammar.Position.{Position}
 use Rattle.ladders.specs.declared.grammar.Position.TheVariants.{First, Series, Group, Groups}
 use Rattle.ladders.specs.declared.step.Op.TheVariants.{Close, St}
@@ -50,7 +50,4 @@ ending Group = step Close 0 ∷ (step St 32 ∷ [])
 ending Groups = step St 32 ∷ []
 
 pub ending_reaches : (p : Position) → reach p (ending p) ≡ Some First
-ending_reaches First = refl
-ending_reaches Series = refl
-ending_reaches Group = refl
-ending_reaches Groups = refl
+ending_reaches p = search rules

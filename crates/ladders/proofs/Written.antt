@@ -1,5 +1,5 @@
 -- Whole rungs are walked along to the end.
-use Rattle.std.proofs.Common.{◌≡◌, ℕ, ◌<◌, ◌≤◌, Bool, true, false, cond, ◌&&◌, ltb, leb, List, [], ◌∷◌, ◌++◌, Some, refl, ap, ◌∙◌, arith}
+use Rattle.std.proofs.Common.{rules, ◌≡◌, ℕ, ◌<◌, ◌≤◌, Bool, true, false, cond, ◌&&◌, ltb, leb, List, [], ◌∷◌, ◌++◌, Some, refl, ap, ◌∙◌, arith}
 use Rattle.std.proofs.lemmas.List.{append_assoc}
 use Rattle.std.proofs.lemmas.Bool.Decides.{nat_tests}
 use Rattle.std.specs.List.{flat_map, AllByRecursion}
@@ -21,9 +21,7 @@ role_either true plain inverse r e d = d
 role_either false plain inverse r e d = e
 
 role_store : (s : Store) → role_of (store_op s) ≡ Stores
-role_store puts = refl
-role_store sets = refl
-role_store resets = refl
+role_store s = search rules
 
 exists : (n : ℕ) → n < 193 → ltb n 193 ≡ true
 exists n h = grind (arith, nat_tests)
