@@ -1,5 +1,5 @@
 -- The run of the steps of whole rungs does what the rungs do, one after the other.
-use Rattle.std.proofs.Common.{◌≡◌, ℕ, Bool, true, false, cond, List, [], ◌∷◌, ◌++◌, set, Some, None, refl, ap, ◌∙◌}
+use Rattle.std.proofs.Common.{rules, ◌≡◌, ℕ, Bool, true, false, cond, List, [], ◌∷◌, ◌++◌, set, Some, None, refl, ap, ◌∙◌}
 use Rattle.std.proofs.lemmas.List.{append_assoc}
 use Rattle.std.specs.List.{flat_map}
 use Rattle.levels.specs.Levels.{Operations}
@@ -14,23 +14,19 @@ module _ {L : Type 0} (o : Operations L) where
   -- a contact that is loaded, joined or opens a group
   load : (xs : List L) (f : Flow L) (b : Bool) (n : ℕ) (rest : List Step)
       → through o xs f (step (cond b Ldn Ld) n ∷ rest) ≡ through o xs (flow (contact_level o xs (record { inverted = b; coil = n })) None) rest
-  load xs f true n rest = refl
-  load xs f false n rest = refl
+  load xs f b n rest = search rules
 
   join : (xs : List L) (x : L) (b : Bool) (n : ℕ) (rest : List Step)
       → through o xs (flow x None) (step (cond b Andn And) n ∷ rest) ≡ through o xs (flow (o.both x (contact_level o xs (record { inverted = b; coil = n }))) None) rest
-  join xs x true n rest = refl
-  join xs x false n rest = refl
+  join xs x b n rest = search rules
 
   open_group : (xs : List L) (x : L) (b : Bool) (n : ℕ) (rest : List Step)
       → through o xs (flow x None) (step (cond b Orn Or) n ∷ rest) ≡ through o xs (flow x (Some (contact_level o xs (record { inverted = b; coil = n })))) rest
-  open_group xs x true n rest = refl
-  open_group xs x false n rest = refl
+  open_group xs x b n rest = search rules
 
   join_group : (xs : List L) (x y : L) (b : Bool) (n : ℕ) (rest : List Step)
       → through o xs (flow x (Some y)) (step (cond b Andn And) n ∷ rest) ≡ through o xs (flow x (Some (o.both y (contact_level o xs (record { inverted = b; coil = n }))))) rest
-  join_group xs x y true n rest = refl
-  join_group xs x y false n rest = refl
+  join_group xs x y b n rest = search rules
 
   series : (cs : List Contact) (xs : List L) (x : L) (rest : List Step)
       → through o xs (flow x None) (joined_steps cs ++ rest) ≡ through o xs (flow (in_series o xs x cs) None) rest
@@ -60,9 +56,7 @@ module _ {L : Type 0} (o : Operations L) where
 
   store : (s : Store) (n : ℕ) (xs : List L) (x : L) (rest : List Step)
       → through o xs (flow x None) (step (store_op s) n ∷ rest) ≡ through o (set xs n (kept_by o s x (level_at o xs n))) (flow x None) rest
-  store puts n xs x rest = refl
-  store sets n xs x rest = refl
-  store resets n xs x rest = refl
+  store s n xs x rest = search rules
 
   rung : (r : Rung) (xs : List L) (f : Flow L) (rest : List Step)
       → through o xs f (rung_steps r ++ rest) ≡ through o (after_rung o r xs) (flow (rung_result o xs r) None) rest
