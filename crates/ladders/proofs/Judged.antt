@@ -1,7 +1,10 @@
 -- The grammar's answer tells whether steps are a ladder, and where they fail to be one.
 use Rattle.std.proofs.Common.{rules, ◌≡◌, ℕ, suc, ◌+◌, ◌<◌, ◌≤◌, Bool, true, false, cond, ltb, ◌⊎◌, List, [], ◌∷◌, ◌++◌, length, take, drop, Some, None, Ok, Err, Option, Result, sym, refl, ap, ◌∙◌, subst, inl, inr, add-one, arith}
 use Rattle.std.proofs.lemmas.List.{append_assoc, take-append-drop, take-take}
+use Rattle.std.proofs.lemmas.Bool.{ltb-true, lt-ltb}
 use Rattle.std.proofs.lemmas.Bool.Decides.{nat_tests}
+use Rattle.std.proofs.lemmas.Option.{option_and_then_some}
+use Rattle.std.specs.Option.{option_and_then}
 use Rattle.ladders.specs.declared.grammar.Fault.{Fault}
 use Rattle.ladders.specs.declared.grammar.Position.{Position}
 use Rattle.ladders.specs.declared.grammar.Position.TheVariants.{First, Series, Group, Groups}
@@ -10,14 +13,11 @@ use Rattle.ladders.specs.Grammar.{next, next_at, fault, ended, onward, from, gra
 use Rattle.ladders.specs.Ladders.{Whole, IsLadder, Begun, FailsAt, Judged}
 use Rattle.ladders.proofs.Named.{chosen, went_on}
 use Rattle.ladders.proofs.Parsed.{reached_whole}
-use Rattle.ladders.proofs.Walks.{on_from, reach, reach_append, first_stands, ending, ending_reaches}
+use Rattle.ladders.proofs.Walks.{reach, reach_append, ending, ending_reaches}
 use Rattle.ladders.proofs.Written.{whole_reaches}
 
 ended_ok : (p : Position) (i : ℕ) → ended p i ≡ Ok tt → p ≡ First
 ended_ok p i e = search rules
-
-below_most : (i : ℕ) → ltb i 2048 ≡ true → i < 2048
-below_most i e = grind (arith, nat_tests)
 
 ok_reaches : (ss : List Step) (p : Position) (i : ℕ) → from p i ss ≡ Ok tt → reach p ss ≡ Some First
 ok_reaches [] p i e = ap Some (ended_ok p i e)
@@ -30,17 +30,17 @@ ok_short : (ss : List Step) (p : Position) (i : ℕ) → from p i ss ≡ Ok tt �
 ok_short [] p i e h = omega arith
 ok_short (s ∷ ss) p i e h =
     let w = went_on (next_at i p s) i (λ q. from q (i + 1) ss) e in
-    let less = below_most i (chosen (ltb i 2048) (next p s) w.0 w.1.0).0 in
+    let less = ltb-true i 2048 (chosen (ltb i 2048) (next p s) w.0 w.1.0).0 in
     let rest = ok_short ss w.0 (i + 1) w.1.1 (omega arith) in
     omega arith
 
 reaches_ok : (ss : List Step) (p : Position) (i : ℕ) → reach p ss ≡ Some First → i + length ss ≤ 2048 → from p i ss ≡ Ok tt
 reaches_ok [] p i e h = let at : p ≡ First = cc in rw at refl
 reaches_ok (s ∷ ss) p i e h =
-    let w = first_stands (next p s) (λ q. reach q ss) First e in
-    let less : ltb i 2048 ≡ true = grind (arith, nat_tests) in
-    let stood : next_at i p s ≡ Some w.0 = rw less w.1.0 in
-    ap (λ (o : Option Position). onward o i (λ q. from q (i + 1) ss)) stood ∙ reaches_ok ss w.0 (i + 1) w.1.1 (omega arith)
+    option_and_then_some (λ q. reach q ss) (next p s) First e (λ q at on.
+        let less : ltb i 2048 ≡ true = lt-ltb i 2048 (omega arith) in
+        let stood : next_at i p s ≡ Some q = rw less at in
+        ap (λ (o : Option Position). onward o i (λ v. from v (i + 1) ss)) stood ∙ reaches_ok ss q (i + 1) on (omega arith))
 
 -- the steps fail after j of them, the first of which stands at p and has the index i
 record Failed (p : Position) (i : ℕ) (ss : List Step) (j : ℕ) : Type 0 where
@@ -84,7 +84,7 @@ fails_here p i k s ss e same =
         few = λ h. omega arith;
         at = p;
         before = refl;
-        here = inr (omega arith, elim why [ inl most ↦ inl (omega arith) | inr none ↦ inr (ap (λ (o : Option Position). on_from o (λ q. reach q (take 0 ss))) none) ]);
+        here = inr (omega arith, elim why [ inl most ↦ inl (omega arith) | inr none ↦ inr (ap (option_and_then (λ q. reach q (take 0 ss))) none) ]);
       },
     )
 
@@ -92,8 +92,8 @@ fails_here p i k s ss e same =
 fails_later : (p q : Position) (i k : ℕ) (s : Step) (ss : List Step) → next_at i p s ≡ Some q → FailedFrom q (i + 1) ss k → FailedFrom p i (s ∷ ss) k
 fails_later p q i k s ss e (j, same, f) =
     let stood = chosen (ltb i 2048) (next p s) q e in
-    let less = below_most i stood.0 in
-    let on : (ts : List Step) → reach p (s ∷ ts) ≡ reach q ts = λ ts. ap (λ (o : Option Position). on_from o (λ v. reach v ts)) stood.1 in
+    let less = ltb-true i 2048 stood.0 in
+    let on : (ts : List Step) → reach p (s ∷ ts) ≡ reach q ts = λ ts. ap (option_and_then (λ v. reach v ts)) stood.1 in
     let short = f.few (omega arith) in (
       suc j,
       omega arith,
@@ -123,12 +123,12 @@ failed (s ∷ ss) p i k e = fails_one_way p i k s ss (next_at i p s) refl e (λ 
 -- whole rungs begin with steps that all stand
 begun : (ss : List Step) (q : Position) → reach First ss ≡ Some q → Begun ss
 begun ss q e =
-    (ending q, reached_whole (ss ++ ending q) (reach_append ss (ending q) First ∙ ap (λ (o : Option Position). on_from o (λ v. reach v (ending q))) e ∙ ending_reaches q))
+    (ending q, reached_whole (ss ++ ending q) (reach_append ss (ending q) First ∙ ap (option_and_then (λ v. reach v (ending q))) e ∙ ending_reaches q))
 
 -- and with no others
 not_begun : (ss : List Step) → reach First ss ≡ None → Begun ss → ⊥
 not_begun ss e (rest, w) =
-    let both : None ≡ Some First = sym (ap (λ (o : Option Position). on_from o (λ v. reach v rest)) e) ∙ sym (reach_append ss rest First) ∙ whole_reaches (ss ++ rest) w in cc
+    let both : None ≡ Some First = sym (ap (option_and_then (λ v. reach v rest)) e) ∙ sym (reach_append ss rest First) ∙ whole_reaches (ss ++ rest) w in cc
 
 accepted : (ss : List Step) → grammar ss ≡ Ok tt → IsLadder ss
 accepted ss e = (reached_whole ss (ok_reaches ss First 0 e), (let l = ok_short ss First 0 e (omega arith) in omega arith))
@@ -172,9 +172,6 @@ no_failure ss i (w, short) f = elim f.here [
   ]
 ]
 
-not_apart : (i j : ℕ) → (i < j → ⊥) → (j < i → ⊥) → i ≡ j
-not_apart i j f g = grind arith
-
 -- the steps do not fail at two indices
 not_twice : (ss : List Step) (i j : ℕ) → FailsAt ss i → FailsAt ss j → i < j → ⊥
 not_twice ss i j f g h =
@@ -192,7 +189,9 @@ each_refused ss i f = told (grammar ss) refl
     told (Err f') e =
         let j = f'.index in
         let g = refused ss j e in
-        let same : j ≡ i = not_apart j i (not_twice ss j i g f) (not_twice ss i j f g) in
+        let not_below = not_twice ss j i g f in
+        let not_above = not_twice ss i j f g in
+        let same : j ≡ i = omega arith in
         e ∙ ap (λ (v : ℕ). Err (fault v)) same
 
 -- the grammar's answer tells whether the steps are a ladder, and where they fail
