@@ -2,7 +2,6 @@
 use Rattle.std.proofs.Common.{◌≡◌, ℕ, ltb, is_some, Some, arith}
 use Rattle.std.proofs.lemmas.Bool.Decides.{nat_tests}
 use Rattle.ladders.specs.declared.coil.Coil.{Coil}
-use Rattle.ladders.specs.declared.coil.Coil.TheVariants.{Line, Start, Place, Transition, Output}
 use Rattle.ladders.specs.Coils.{number_of, coil_numbered, CoilNames}
 
 every_number : (k : ℕ) → is_some (coil_numbered k) ≡ ltb k 193

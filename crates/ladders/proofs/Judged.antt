@@ -38,9 +38,9 @@ reaches_ok : (ss : List Step) (p : Position) (i : ℕ) → reach p ss ≡ Some F
 reaches_ok [] p i e h = let at : p ≡ First = cc in rw at refl
 reaches_ok (s ∷ ss) p i e h =
     option_and_then_some (λ q. reach q ss) (next p s) First e (λ q at on.
-        let less : ltb i 2048 ≡ true = lt-ltb i 2048 (omega arith) in
-        let stood : next_at i p s ≡ Some q = rw less at in
-        ap (λ (o : Option Position). onward o i (λ v. from v (i + 1) ss)) stood ∙ reaches_ok ss q (i + 1) on (omega arith))
+    let less : ltb i 2048 ≡ true = lt-ltb i 2048 (omega arith) in
+    let stood : next_at i p s ≡ Some q = rw less at in
+    ap (λ (o : Option Position). onward o i (λ v. from v (i + 1) ss)) stood ∙ reaches_ok ss q (i + 1) on (omega arith))
 
 -- the steps fail after j of them, the first of which stands at p and has the index i
 record Failed (p : Position) (i : ℕ) (ss : List Step) (j : ℕ) : Type 0 where

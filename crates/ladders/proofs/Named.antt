@@ -5,7 +5,6 @@ use Rattle.ladders.specs.declared.grammar.Fault.{Fault}
 use Rattle.ladders.specs.declared.grammar.Position.{Position}
 use Rattle.ladders.specs.declared.grammar.Position.TheVariants.{First}
 use Rattle.ladders.specs.declared.step.Role.{Role}
-use Rattle.ladders.specs.declared.step.Role.TheVariants.{Loads, Joins, Opens, Closes, Stores}
 use Rattle.ladders.specs.declared.step.Step.{Step}
 use Rattle.ladders.specs.Grammar.{coil_fits, position_after, next, next_at, onward, from, grammar}
 use Rattle.ladders.specs.Steps.{role_of}

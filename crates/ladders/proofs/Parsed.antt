@@ -1,5 +1,5 @@
 -- Steps that are walked along to the end are whole rungs.
-use Rattle.std.proofs.Common.{rules, ◌≡◌, ℕ, ◌<◌, ◌≤◌, Bool, true, false, cond, ◌&&◌, eqb, ltb, leb, List, [], ◌∷◌, ◌++◌, Some, sym, refl, ap, ◌∙◌, subst, arith}
+use Rattle.std.proofs.Common.{rules, ◌≡◌, ℕ, ◌<◌, ◌≤◌, Bool, true, cond, ◌&&◌, eqb, ltb, leb, List, [], ◌∷◌, ◌++◌, Some, sym, refl, ap, ◌∙◌, subst, arith}
 use Rattle.std.proofs.lemmas.List.{append_assoc}
 use Rattle.std.proofs.lemmas.Bool.{ltb-true}
 use Rattle.std.proofs.lemmas.Bool.Decides.{nat_tests}
@@ -162,8 +162,8 @@ parsed : (ss : List Step) (p : Position) → reach p ss ≡ Some First → Left 
 parsed [] p e = left_none p e
 parsed (s ∷ ss) p e =
     option_and_then_some (λ q. reach q ss) (next p s) First e (λ q at on.
-        let stood = chosen (coil_fits (role_of s.op) s.coil) (position_after p (role_of s.op)) q at in
-        left_more p (role_of s.op) s ss refl stood.0 q stood.1 (parsed ss q on))
+    let stood = chosen (coil_fits (role_of s.op) s.coil) (position_after p (role_of s.op)) q at in
+    left_more p (role_of s.op) s ss refl stood.0 q stood.1 (parsed ss q on))
 
 pub reached_whole : (ss : List Step) → reach First ss ≡ Some First → Whole ss
 reached_whole ss e = parsed ss First e

@@ -7,7 +7,7 @@ use Rattle.ladders.specs.declared.flow.Flow.{Flow}
 use Rattle.ladders.specs.declared.step.Op.TheVariants.{Ld, Ldn, And, Andn, Or, Orn, Close}
 use Rattle.ladders.specs.declared.step.Step.{Step}
 use Rattle.ladders.specs.Flows.{flow, joined_flow, level_at, through, ran, no_flow}
-use Rattle.ladders.specs.Rungs.{Contact, Row, Store, puts, sets, resets, Rung, joined_steps, group_steps, store_op, rung_steps, rungs_steps, contact_level, in_series, row_level, beside, rung_result, kept_by, after_rung, after_rungs}
+use Rattle.ladders.specs.Rungs.{Contact, Row, Store, Rung, joined_steps, group_steps, store_op, rung_steps, rungs_steps, contact_level, in_series, row_level, beside, rung_result, kept_by, after_rung, after_rungs}
 use Rattle.ladders.specs.Steps.{step}
 
 module _ {L : Type 0} (o : Operations L) where

@@ -13,7 +13,7 @@ use Rattle.ladders.specs.declared.step.Role.TheVariants.{Loads, Joins, Opens, St
 use Rattle.ladders.specs.declared.step.Step.{Step}
 use Rattle.ladders.specs.Grammar.{position_after}
 use Rattle.ladders.specs.Ladders.{Whole}
-use Rattle.ladders.specs.Rungs.{Contact, Row, Store, puts, sets, resets, Rung, contact_step, joined_steps, group_steps, store_op, rung_steps, rungs_steps, ContactExists, RowExists, RungExists}
+use Rattle.ladders.specs.Rungs.{Contact, Row, Store, Rung, contact_step, joined_steps, group_steps, store_op, rung_steps, rungs_steps, ContactExists, RowExists, RungExists}
 use Rattle.ladders.specs.Steps.{role_of, step}
 use Rattle.ladders.proofs.Walks.{reach, on_past}
 

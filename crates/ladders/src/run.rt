@@ -21,7 +21,11 @@ fn stored_level<L: Level>(op: Op, outcome: L, x: L) -> Option<L>
 }
 
 // One step: the flow after it, and what it stores.
-pub(crate) fn take_step<L: Level>(flow: Flow<L>, step: Step, coils: &mut [L; COILS as usize]) -> Flow<L>
+pub(crate) fn take_step<L: Level>(
+    flow: Flow<L>,
+    step: Step,
+    coils: &mut [L; COILS as usize],
+) -> Flow<L>
     requires { step.coil < COILS }
     ensures flow { result ≡ flow_past L.operations step coils.old flow }
     ensures coils { coils.new ≡ written L.operations step coils.old flow }
