@@ -1,14 +1,14 @@
 -- Steps that are walked along to the end are whole rungs.
-use Rattle.std.proofs.Common.{rules, ◌≡◌, ℕ, ◌<◌, ◌≤◌, Bool, true, cond, ◌&&◌, eqb, ltb, leb, List, [], ◌∷◌, ◌++◌, Some, sym, refl, ap, ◌∙◌, subst, arith}
+use Rattle.std.proofs.Common.{rules, ◌≡◌, ℕ, ◌<◌, ◌≤◌, Bool, true, cond, ◌&&◌, ltb, leb, List, [], ◌∷◌, ◌++◌, Some, sym, refl, ap, ◌∙◌, subst, arith}
 use Rattle.std.proofs.lemmas.List.{append_assoc}
-use Rattle.std.proofs.lemmas.Bool.{ltb-true}
+use Rattle.std.proofs.lemmas.Bool.{eqb-true, ltb-true}
 use Rattle.std.proofs.lemmas.Bool.Decides.{nat_tests}
 use Rattle.std.proofs.lemmas.Option.{option_and_then_some}
 use Rattle.std.specs.List.{flat_map, AllByRecursion}
 use Rattle.ladders.specs.declared.grammar.Position.{Position}
 use Rattle.ladders.specs.declared.grammar.Position.TheVariants.{First, Series, Group, Groups}
 use Rattle.ladders.specs.declared.step.Op.{Op}
-use Rattle.ladders.specs.declared.step.Op.TheVariants.{Ld, Ldn, And, Andn, Or, Orn, Close, St, S, R}
+use Rattle.ladders.specs.declared.step.Op.TheVariants.{Ld, Ldn, And, Andn, Or, Orn, Close, S, R}
 use Rattle.ladders.specs.declared.step.Role.{Role}
 use Rattle.ladders.specs.declared.step.Role.TheVariants.{Loads, Joins, Opens, Closes, Stores}
 use Rattle.ladders.specs.declared.step.Step.{Step}
@@ -21,16 +21,9 @@ use Rattle.ladders.proofs.Walks.{reach}
 
 -- what a storing operation makes of the result
 abbrev store_of : Op → Store
-store_of Ld = puts
-store_of Ldn = puts
-store_of And = puts
-store_of Andn = puts
-store_of Or = puts
-store_of Orn = puts
-store_of Close = puts
-store_of St = puts
 store_of S = sets
 store_of R = resets
+store_of _ = puts
 
 -- the operation of a role
 abbrev spelled : Role → Bool → Store → Op
@@ -75,14 +68,8 @@ Left Series ss = Joined tail_steps ss
 Left Group ss = Joined (λ t. step Close 0 ∷ tail_steps t) ss
 Left Groups ss = (t : Tail) × TailExists t × (ss ≡ tail_steps t)
 
-stores_low : (n : ℕ) → (leb 32 n && ltb n 193) ≡ true → 32 ≤ n
-stores_low n e = grind (arith, nat_tests)
-
-stores_high : (n : ℕ) → (leb 32 n && ltb n 193) ≡ true → n < 193
-stores_high n e = grind (arith, nat_tests)
-
-is_zero : (n : ℕ) → eqb n 0 ≡ true → n ≡ 0
-is_zero n e = grind (arith, nat_tests)
+stores_fit : (n : ℕ) → (leb 32 n && ltb n 193) ≡ true → (32 ≤ n) × (n < 193)
+stores_fit n e = (grind (arith, nat_tests), grind (arith, nat_tests))
 
 cons : {X : Type 0} {x y : X} {xs ys : List X} → x ≡ y → xs ≡ ys → x ∷ xs ≡ y ∷ ys
 cons e d = cc
@@ -119,7 +106,7 @@ closed s ss e zero (t, ht, w) = ([], t, tt, ht, cons (step_spelled s Closes e �
 stored : (s : Step) (ss : List Step) → role_of s.op ≡ Stores → (leb 32 s.coil && ltb s.coil 193) ≡ true → Left First ss → Left Groups (s ∷ ss)
 stored s ss e fits (rs, hs, w) = (
   record { groups = []; store = store_of s.op; coil = s.coil; rungs = rs },
-  (tt, stores_low s.coil fits, stores_high s.coil fits, hs),
+  (let in_range = stores_fit s.coil fits in (tt, in_range.0, in_range.1, hs)),
   cons (step_spelled s Stores e) w,
 )
 
@@ -146,7 +133,7 @@ left_more Series Stores s ss e fits q a h = no_more_joined (s ∷ ss) (stored s 
 left_more Group Loads s ss e fits q a h = cc
 left_more Group Joins s ss e fits q a h = joined (λ t. step Close 0 ∷ tail_steps t) s ss e fits (moved Group q ss a h)
 left_more Group Opens s ss e fits q a h = cc
-left_more Group Closes s ss e fits q a h = closed s ss e (is_zero s.coil fits) (moved Groups q ss a h)
+left_more Group Closes s ss e fits q a h = closed s ss e (eqb-true s.coil 0 fits) (moved Groups q ss a h)
 left_more Group Stores s ss e fits q a h = cc
 left_more Groups Loads s ss e fits q a h = cc
 left_more Groups Joins s ss e fits q a h = cc

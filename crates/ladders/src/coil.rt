@@ -60,6 +60,7 @@ impl TryFrom<u16> for Coil {
     ghost try_from_gives = { λ number r. r ≡ ok_or (coil_numbered number) no_such_coil };
 
     fn try_from(number: u16) -> Result<Coil, NoSuchCoil> {
+        // An arm for each kind of coil: one function for all would take the ends of the range and the constructor.
         match number {
             ..START => Ok(Coil::Line(number)),
             START => Ok(Coil::Start),

@@ -28,12 +28,12 @@ impl<L: Level> Flow<L> {
     {
         match self.group {
             Some(group) => Flow {
-                result: self.result,
                 group: Some(group.both(x)),
+                ..self
             },
             None => Flow {
                 result: self.result.both(x),
-                group: None,
+                ..self
             },
         }
     }
@@ -56,6 +56,7 @@ impl<L: Level> Flow<L> {
         ensures { result ≡ flowing L.operations op x self }
     {
         let level = if op.inverts() { x.inverse() } else { x };
+        // A `match`: in a table of closures each role would still be a line, and one could be left out.
         match op.role() {
             Role::Loads => Flow {
                 result: level,

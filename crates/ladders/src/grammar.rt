@@ -1,9 +1,12 @@
 // Which steps are a ladder: whole rungs, at most 2,048 steps.
-ghost use Rattle.std.specs.Prelude.{◌≡◌};
+ghost use Rattle.std.specs.Prelude.{◌≡◌, ◌++◌, Some, codes};
+ghost use Rattle.std.specs.Fmt.{decimal};
 ghost use Rattle.ladders.specs.Grammar.{coil_fits, position_after, next, next_at, ended, grammar};
 
 use crate::coil::{COILS, START};
 use crate::step::{Role, Step};
+use std::error::Error;
+use std::fmt;
 
 // The most steps of a ladder.
 pub const MAX_STEPS: usize = 2048;
@@ -13,6 +16,16 @@ pub const MAX_STEPS: usize = 2048;
 pub struct Fault {
     pub index: usize,
 }
+
+impl fmt::Display for Fault {
+    ghost output = { λ fault. Some (codes "no ladder from step " ++ decimal fault.index ++ codes " on") };
+
+    fn fmt<W: fmt::Write>(&self, f: &mut fmt::Formatter<W>) -> fmt::Result {
+        write!(f, "no ladder from step {} on", self.index)
+    }
+}
+
+impl Error for Fault {}
 
 // Where in a rung a step stands: first, after what the rung has in series, in a group, or after a group.
 #[derive(Clone, Copy)]

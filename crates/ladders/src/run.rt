@@ -12,6 +12,7 @@ use levels::Level;
 fn stored_level<L: Level>(op: Op, outcome: L, x: L) -> Option<L>
     ensures { result ≡ stored L.operations op outcome x }
 {
+    // A `match`: a table of closures would be no shorter, and would need an entry where nothing is stored.
     match op {
         Op::St => Some(outcome),
         Op::S => Some(x.either(outcome)),

@@ -30,6 +30,7 @@ pub enum Role {
 #[derive(Clone, Copy, Debug, PartialEq, Eq)]
 pub struct Step {
     pub op: Op,
+    // A number and no `Coil`: steps come untested, and may name a coil that does not exist.
     pub coil: u16,
 }
 
