@@ -1,5 +1,5 @@
 -- What flows along a rung, what a step stores, and the run of steps, step by step. Rungs.antt says what a whole rung does.
-use Rattle.std.specs.Prelude.{ℕ, cond, List, [], ◌∷◌, Some, None, Option, slice_index_or, slice_set}
+use Rattle.std.specs.Prelude.{ℕ, if◌then◌else◌, List, [], ◌∷◌, Some, None, Option, slice_index_or, slice_set}
 use Rattle.levels.specs.Levels.{Operations}
 use Rattle.ladders.specs.declared.flow.Flow.{Flow}
 use Rattle.ladders.specs.declared.step.Op.{Op}
@@ -37,7 +37,7 @@ closed_flow o f = closed_by o f.result f.group
 
 -- the level that an operation takes of a coil at level x
 abbrev pub taken : {L : Type 0} → Operations L → Op → L → L
-taken o op x = cond (inverts op) (o.inverse x) x
+taken o op x = if inverts op then o.inverse x else x
 
 -- the flow after an operation of a role, which takes the level y
 abbrev pub flowing_by : {L : Type 0} → Operations L → Role → L → Flow L → Flow L

@@ -1,5 +1,5 @@
 -- Where steps fail to be a ladder, found step by step. Ladders.antt says the same by the form of rungs.
-use Rattle.std.specs.Prelude.{ℕ, ◌+◌, Bool, cond, ◌&&◌, List, [], ◌∷◌, Some, None, Ok, Err, Option, Result, ◌==◌, nat_le, nat_lt}
+use Rattle.std.specs.Prelude.{ℕ, ◌+◌, Bool, if◌then◌else◌, ◌&&◌, List, [], ◌∷◌, Some, None, Ok, Err, Option, Result, ◌==◌, nat_le, nat_lt}
 use Rattle.ladders.specs.declared.grammar.Fault.{Fault}
 use Rattle.ladders.specs.declared.grammar.Position.{Position}
 use Rattle.ladders.specs.declared.grammar.Position.TheVariants.{First, Series, Group, Groups}
@@ -28,11 +28,11 @@ position_after _ _ = None
 
 -- where the step after this one stands, if this one may stand here
 abbrev pub next : Position → Step → Option Position
-next p s = cond (coil_fits (role_of s.op) s.coil) (position_after p (role_of s.op)) None
+next p s = if coil_fits (role_of s.op) s.coil then position_after p (role_of s.op) else None
 
 -- the same for the step of index i, which has to be below the most
 abbrev pub next_at : ℕ → Position → Step → Option Position
-next_at i p s = cond (nat_lt i 2048) (next p s) None
+next_at i p s = if nat_lt i 2048 then next p s else None
 
 -- a fault at an index
 abbrev pub fault : ℕ → Fault

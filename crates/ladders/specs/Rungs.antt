@@ -1,5 +1,5 @@
 -- Rungs by their form: which steps they are written as, and what they do to the coils.
-use Rattle.std.specs.Prelude.{◌≡◌, ℕ, ◌<◌, ◌≤◌, Bool, cond, List, [], ◌∷◌, ◌++◌, map, fold, slice_set}
+use Rattle.std.specs.Prelude.{◌≡◌, ℕ, ◌<◌, ◌≤◌, Bool, if◌then◌else◌, List, [], ◌∷◌, ◌++◌, map, fold, slice_set}
 use Rattle.std.specs.List.{flat_map, AllByRecursion}
 use Rattle.levels.specs.Levels.{Operations}
 use Rattle.ladders.specs.declared.step.Op.{Op}
@@ -37,7 +37,7 @@ pub record Rung : Type 0 where
 
 -- one of two operations, the second for a contact that is inverted
 abbrev pub contact_step : Op → Op → Contact → Step
-contact_step plain inverse c = step (cond c.inverted inverse plain) c.coil
+contact_step plain inverse c = step (if c.inverted then inverse else plain) c.coil
 
 -- the contacts that are joined to the first of a row
 abbrev pub joined_steps : List Contact → List Step
@@ -79,7 +79,7 @@ RungExists r = RowExists r.row × AllByRecursion RowExists r.groups × (32 ≤ r
 
 -- the level of a contact: that of its coil, or the inverse
 abbrev pub contact_level : {L : Type 0} → Operations L → List L → Contact → L
-contact_level o xs c = cond c.inverted (o.inverse (level_at o xs c.coil)) (level_at o xs c.coil)
+contact_level o xs c = if c.inverted then o.inverse (level_at o xs c.coil) else level_at o xs c.coil
 
 -- both of a level and each of some contacts
 abbrev pub in_series : {L : Type 0} → Operations L → List L → L → List Contact → L
