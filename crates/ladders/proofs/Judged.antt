@@ -10,7 +10,7 @@ use Rattle.ladders.specs.declared.grammar.Position.{Position}
 use Rattle.ladders.specs.declared.grammar.Position.TheVariants.{First, Series, Group, Groups}
 use Rattle.ladders.specs.declared.step.Step.{Step}
 use Rattle.ladders.specs.Grammar.{next, next_at, fault, ended, onward, from, grammar}
-use Rattle.ladders.specs.Ladders.{Whole, IsLadder, Begun, FailsAt, Judged}
+use Rattle.ladders.specs.Ladders.{Whole, IsLadder, Begun, FailsAt, GrammarTells}
 use Rattle.ladders.proofs.Named.{chosen, went_on}
 use Rattle.ladders.proofs.Parsed.{reached_whole}
 use Rattle.ladders.proofs.Walks.{reach, reach_append, ending, ending_reaches}
@@ -195,11 +195,5 @@ each_refused ss i f = told (grammar ss) refl
         e ∙ ap (λ (v : ℕ). Err (fault v)) same
 
 -- the grammar's answer tells whether the steps are a ladder, and where they fail
-pub judged : (ss : List Step) (r : Result (Unit {0}) Fault) → r ≡ grammar ss → Judged ss r
-judged ss r e =
-    record {
-      accepted = λ h. accepted ss (sym e ∙ h);
-      each_accepted = λ h. e ∙ each_accepted ss h;
-      refused = λ i h. refused ss i (sym e ∙ h);
-      each_refused = λ i h. e ∙ each_refused ss i h;
-    }
+pub grammar_tells : GrammarTells
+grammar_tells ss = record { accepted = accepted ss; each_accepted = each_accepted ss; refused = refused ss; each_refused = each_refused ss }

@@ -6,8 +6,8 @@ use Rattle.levels.specs.Levels.{Operations}
 use Rattle.ladders.specs.declared.flow.Flow.{Flow}
 use Rattle.ladders.specs.declared.step.Op.TheVariants.{Ld, Ldn, And, Andn, Or, Orn, Close}
 use Rattle.ladders.specs.declared.step.Step.{Step}
-use Rattle.ladders.specs.Flows.{flow, joined_flow, level_at, through, ran, no_flow}
-use Rattle.ladders.specs.Rungs.{Contact, Row, Store, Rung, joined_steps, group_steps, store_op, rung_steps, rungs_steps, contact_level, in_series, row_level, beside, rung_result, kept_by, after_rung, after_rungs}
+use Rattle.ladders.specs.Flows.{flow, joined_flow, level_at, through, no_flow}
+use Rattle.ladders.specs.Rungs.{Contact, Row, Store, Rung, joined_steps, group_steps, store_op, rung_steps, rungs_steps, contact_level, in_series, row_level, beside, rung_result, kept_by, after_rung, after_rungs, RungsInTurn}
 use Rattle.ladders.specs.Steps.{step}
 
 module _ {L : Type 0} (o : Operations L) where
@@ -69,5 +69,5 @@ module _ {L : Type 0} (o : Operations L) where
   in_turn [] xs f = refl
   in_turn (r ∷ rs) xs f = rung r xs f (rungs_steps rs) ∙ in_turn rs (after_rung o r xs) (flow (rung_result o xs r) None)
 
-  pub rungs_in_turn : (rs : List Rung) (xs : List L) → ran o (rungs_steps rs) xs ≡ after_rungs o rs xs
+  pub rungs_in_turn : RungsInTurn o
   rungs_in_turn rs xs = in_turn rs xs (no_flow o)
