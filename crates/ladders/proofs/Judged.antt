@@ -1,25 +1,23 @@
 -- The grammar's answer tells whether steps are a ladder, and where they fail to be one.
-use Rattle.std.proofs.Common.{◌≡◌, ℕ, suc, ◌+◌, ◌<◌, ◌≤◌, Bool, true, false, cond, ltb, ◌⊎◌, List, [], ◌∷◌, ◌++◌, length, take, drop, Some, None, Ok, Err, Option, Result, sym, refl, ap, ◌∙◌, subst, inl, inr, add-one, arith}
+use Rattle.std.proofs.Common.{rules, ◌≡◌, ℕ, suc, ◌+◌, ◌<◌, ◌≤◌, Bool, true, false, cond, ltb, ◌⊎◌, List, [], ◌∷◌, ◌++◌, length, take, drop, Some, None, Ok, Err, Option, Result, sym, refl, ap, ◌∙◌, subst, inl, inr, add-one, arith}
 use Rattle.std.proofs.lemmas.List.{append_assoc, take-append-drop, take-take}
+use Rattle.std.proofs.lemmas.Bool.{ltb-true, lt-ltb}
 use Rattle.std.proofs.lemmas.Bool.Decides.{nat_tests}
+use Rattle.std.proofs.lemmas.Option.{option_and_then_some}
+use Rattle.std.specs.Option.{option_and_then}
+use Rattle.ladders.specs.declared.grammar.Fault.{Fault}
 use Rattle.ladders.specs.declared.grammar.Position.{Position}
 use Rattle.ladders.specs.declared.grammar.Position.TheVariants.{First, Series, Group, Groups}
 use Rattle.ladders.specs.declared.step.Step.{Step}
-use Rattle.ladders.specs.Grammar.{next, next_at, ended, onward, from, grammar}
-use Rattle.ladders.specs.Ladders.{Whole, IsLadder, Begun, FailsAt, Judged}
+use Rattle.ladders.specs.Grammar.{next, next_at, fault, ended, onward, from, grammar}
+use Rattle.ladders.specs.Ladders.{Whole, IsLadder, Begun, FailsAt, GrammarTells}
 use Rattle.ladders.proofs.Named.{chosen, went_on}
 use Rattle.ladders.proofs.Parsed.{reached_whole}
-use Rattle.ladders.proofs.Walks.{on_from, reach, reach_append, first_stands, ending, ending_reaches}
+use Rattle.ladders.proofs.Walks.{reach, reach_append, ending, ending_reaches}
 use Rattle.ladders.proofs.Written.{whole_reaches}
 
 ended_ok : (p : Position) (i : ℕ) → ended p i ≡ Ok tt → p ≡ First
-ended_ok First i e = refl
-ended_ok Series i e = cc
-ended_ok Group i e = cc
-ended_ok Groups i e = cc
-
-below_most : (i : ℕ) → ltb i 2048 ≡ true → i < 2048
-below_most i e = grind (arith, nat_tests)
+ended_ok p i e = search rules
 
 ok_reaches : (ss : List Step) (p : Position) (i : ℕ) → from p i ss ≡ Ok tt → reach p ss ≡ Some First
 ok_reaches [] p i e = ap Some (ended_ok p i e)
@@ -32,17 +30,17 @@ ok_short : (ss : List Step) (p : Position) (i : ℕ) → from p i ss ≡ Ok tt �
 ok_short [] p i e h = omega arith
 ok_short (s ∷ ss) p i e h =
     let w = went_on (next_at i p s) i (λ q. from q (i + 1) ss) e in
-    let less = below_most i (chosen (ltb i 2048) (next p s) w.0 w.1.0).0 in
+    let less = ltb-true i 2048 (chosen (ltb i 2048) (next p s) w.0 w.1.0).0 in
     let rest = ok_short ss w.0 (i + 1) w.1.1 (omega arith) in
     omega arith
 
 reaches_ok : (ss : List Step) (p : Position) (i : ℕ) → reach p ss ≡ Some First → i + length ss ≤ 2048 → from p i ss ≡ Ok tt
 reaches_ok [] p i e h = let at : p ≡ First = cc in rw at refl
 reaches_ok (s ∷ ss) p i e h =
-    let w = first_stands (next p s) (λ q. reach q ss) First e in
-    let less : ltb i 2048 ≡ true = grind (arith, nat_tests) in
-    let stood : next_at i p s ≡ Some w.0 = rw less w.1.0 in
-    ap (λ (o : Option Position). onward o i (λ q. from q (i + 1) ss)) stood ∙ reaches_ok ss w.0 (i + 1) w.1.1 (omega arith)
+    option_and_then_some (λ q. reach q ss) (next p s) First e (λ q at on.
+    let less : ltb i 2048 ≡ true = lt-ltb i 2048 (omega arith) in
+    let stood : next_at i p s ≡ Some q = rw less at in
+    ap (λ (o : Option Position). onward o i (λ v. from v (i + 1) ss)) stood ∙ reaches_ok ss q (i + 1) on (omega arith))
 
 -- the steps fail after j of them, the first of which stands at p and has the index i
 record Failed (p : Position) (i : ℕ) (ss : List Step) (j : ℕ) : Type 0 where
@@ -55,13 +53,17 @@ record Failed (p : Position) (i : ℕ) (ss : List Step) (j : ℕ) : Type 0 where
 abbrev FailedFrom : Position → ℕ → List Step → ℕ → Type 0
 FailedFrom p i ss k = (j : ℕ) × (k ≡ i + j) × Failed p i ss j
 
+-- the same fault is at the same index
+same_index : (i k : ℕ) → ◌≡◌ {A = Result (Unit {0}) Fault} (Err (fault i)) (Err (fault k)) → i ≡ k
+same_index i k e = let same : fault i ≡ fault k = cc in ap (λ (f : Fault). f.index) same
+
 -- steps that end in mid-rung
-cut_off : (p : Position) (i k : ℕ) → (p ≡ First → ⊥) → ◌≡◌ {A = Result (Unit {0}) ℕ} (Err i) (Err k) → FailedFrom p i [] k
+cut_off : (p : Position) (i k : ℕ) → (p ≡ First → ⊥) → ◌≡◌ {A = Result (Unit {0}) Fault} (Err (fault i)) (Err (fault k)) → FailedFrom p i [] k
 cut_off p i k mid e =
-    let same : k ≡ i = cc in
+    let same = same_index i k e in
     (0, omega arith, record { within = omega arith; few = λ h. omega arith; at = p; before = refl; here = inl (refl, λ d. mid (cc)) })
 
-failed_none : (p : Position) (i k : ℕ) → ended p i ≡ Err k → FailedFrom p i [] k
+failed_none : (p : Position) (i k : ℕ) → ended p i ≡ Err (fault k) → FailedFrom p i [] k
 failed_none First i k e = cc
 failed_none Series i k e = cut_off Series i k (λ d. cc) e
 failed_none Group i k e = cut_off Group i k (λ d. cc) e
@@ -82,7 +84,7 @@ fails_here p i k s ss e same =
         few = λ h. omega arith;
         at = p;
         before = refl;
-        here = inr (omega arith, elim why [ inl most ↦ inl (omega arith) | inr none ↦ inr (ap (λ (o : Option Position). on_from o (λ q. reach q (take 0 ss))) none) ]);
+        here = inr (omega arith, elim why [ inl most ↦ inl (omega arith) | inr none ↦ inr (ap (option_and_then (λ q. reach q (take 0 ss))) none) ]);
       },
     )
 
@@ -90,8 +92,8 @@ fails_here p i k s ss e same =
 fails_later : (p q : Position) (i k : ℕ) (s : Step) (ss : List Step) → next_at i p s ≡ Some q → FailedFrom q (i + 1) ss k → FailedFrom p i (s ∷ ss) k
 fails_later p q i k s ss e (j, same, f) =
     let stood = chosen (ltb i 2048) (next p s) q e in
-    let less = below_most i stood.0 in
-    let on : (ts : List Step) → reach p (s ∷ ts) ≡ reach q ts = λ ts. ap (λ (o : Option Position). on_from o (λ v. reach v ts)) stood.1 in
+    let less = ltb-true i 2048 stood.0 in
+    let on : (ts : List Step) → reach p (s ∷ ts) ≡ reach q ts = λ ts. ap (option_and_then (λ v. reach v ts)) stood.1 in
     let short = f.few (omega arith) in (
       suc j,
       omega arith,
@@ -108,25 +110,25 @@ fails_later p q i k s ss e (j, same, f) =
     )
 
 fails_one_way : (p : Position) (i k : ℕ) (s : Step) (ss : List Step) (o : Option Position) → next_at i p s ≡ o
-    → onward o i (λ q. from q (i + 1) ss) ≡ Err k
-    → ((q : Position) → from q (i + 1) ss ≡ Err k → FailedFrom q (i + 1) ss k)
+    → onward o i (λ q. from q (i + 1) ss) ≡ Err (fault k)
+    → ((q : Position) → from q (i + 1) ss ≡ Err (fault k) → FailedFrom q (i + 1) ss k)
     → FailedFrom p i (s ∷ ss) k
-fails_one_way p i k s ss None t e ih = fails_here p i k s ss t (cc)
+fails_one_way p i k s ss None t e ih = fails_here p i k s ss t (same_index i k e)
 fails_one_way p i k s ss (Some q) t e ih = fails_later p q i k s ss t (ih q e)
 
-failed : (ss : List Step) (p : Position) (i k : ℕ) → from p i ss ≡ Err k → FailedFrom p i ss k
+failed : (ss : List Step) (p : Position) (i k : ℕ) → from p i ss ≡ Err (fault k) → FailedFrom p i ss k
 failed [] p i k e = failed_none p i k e
 failed (s ∷ ss) p i k e = fails_one_way p i k s ss (next_at i p s) refl e (λ q. failed ss q (i + 1) k)
 
 -- whole rungs begin with steps that all stand
 begun : (ss : List Step) (q : Position) → reach First ss ≡ Some q → Begun ss
 begun ss q e =
-    (ending q, reached_whole (ss ++ ending q) (reach_append ss (ending q) First ∙ ap (λ (o : Option Position). on_from o (λ v. reach v (ending q))) e ∙ ending_reaches q))
+    (ending q, reached_whole (ss ++ ending q) (reach_append ss (ending q) First ∙ ap (option_and_then (λ v. reach v (ending q))) e ∙ ending_reaches q))
 
 -- and with no others
 not_begun : (ss : List Step) → reach First ss ≡ None → Begun ss → ⊥
 not_begun ss e (rest, w) =
-    let both : None ≡ Some First = sym (ap (λ (o : Option Position). on_from o (λ v. reach v rest)) e) ∙ sym (reach_append ss rest First) ∙ whole_reaches (ss ++ rest) w in cc
+    let both : None ≡ Some First = sym (ap (option_and_then (λ v. reach v rest)) e) ∙ sym (reach_append ss rest First) ∙ whole_reaches (ss ++ rest) w in cc
 
 accepted : (ss : List Step) → grammar ss ≡ Ok tt → IsLadder ss
 accepted ss e = (reached_whole ss (ok_reaches ss First 0 e), (let l = ok_short ss First 0 e (omega arith) in omega arith))
@@ -134,7 +136,7 @@ accepted ss e = (reached_whole ss (ok_reaches ss First 0 e), (let l = ok_short s
 each_accepted : (ss : List Step) → IsLadder ss → grammar ss ≡ Ok tt
 each_accepted ss (w, short) = reaches_ok ss First 0 (whole_reaches ss w) (omega arith)
 
-refused : (ss : List Step) (i : ℕ) → grammar ss ≡ Err i → FailsAt ss i
+refused : (ss : List Step) (i : ℕ) → grammar ss ≡ Err (fault i) → FailsAt ss i
 refused ss i e = told (failed ss First 0 i e)
   where
     told : FailedFrom First 0 ss i → FailsAt ss i
@@ -170,9 +172,6 @@ no_failure ss i (w, short) f = elim f.here [
   ]
 ]
 
-not_apart : (i j : ℕ) → (i < j → ⊥) → (j < i → ⊥) → i ≡ j
-not_apart i j f g = grind arith
-
 -- the steps do not fail at two indices
 not_twice : (ss : List Step) (i j : ℕ) → FailsAt ss i → FailsAt ss j → i < j → ⊥
 not_twice ss i j f g h =
@@ -182,22 +181,19 @@ not_twice ss i j f g h =
       | inr v ↦ elim v.1 [ inl most ↦ omega arith | inr none ↦ none (begun_fewer ss (i + 1) j (omega arith) g.not_before) ]
     ]
 
-each_refused : (ss : List Step) (i : ℕ) → FailsAt ss i → grammar ss ≡ Err i
+each_refused : (ss : List Step) (i : ℕ) → FailsAt ss i → grammar ss ≡ Err (fault i)
 each_refused ss i f = told (grammar ss) refl
   where
-    told : (r : Result (Unit {0}) ℕ) → grammar ss ≡ r → grammar ss ≡ Err i
+    told : (r : Result (Unit {0}) Fault) → grammar ss ≡ r → grammar ss ≡ Err (fault i)
     told (Ok tt) e = absurd (no_failure ss i (accepted ss e) f)
-    told (Err j) e =
+    told (Err f') e =
+        let j = f'.index in
         let g = refused ss j e in
-        let same : j ≡ i = not_apart j i (not_twice ss j i g f) (not_twice ss i j f g) in
-        e ∙ ap Err same
+        let not_below = not_twice ss j i g f in
+        let not_above = not_twice ss i j f g in
+        let same : j ≡ i = omega arith in
+        e ∙ ap (λ (v : ℕ). Err (fault v)) same
 
 -- the grammar's answer tells whether the steps are a ladder, and where they fail
-pub judged : (ss : List Step) (r : Result (Unit {0}) ℕ) → r ≡ grammar ss → Judged ss r
-judged ss r e =
-    record {
-      accepted = λ h. accepted ss (sym e ∙ h);
-      each_accepted = λ h. e ∙ each_accepted ss h;
-      refused = λ i h. refused ss i (sym e ∙ h);
-      each_refused = λ i h. e ∙ each_refused ss i h;
-    }
+pub grammar_tells : GrammarTells
+grammar_tells ss = record { accepted = accepted ss; each_accepted = each_accepted ss; refused = refused ss; each_refused = each_refused ss }

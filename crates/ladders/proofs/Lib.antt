@@ -3,6 +3,5 @@ pub mod Judged
 pub mod Named
 pub mod Parsed
 pub mod RungRuns
-pub mod Turns
 pub mod Walks
 pub mod Written

@@ -1,5 +1,6 @@
 -- The walk along steps from a position, free of indices.
-use Rattle.std.proofs.Common.{◌≡◌, true, List, [], ◌∷◌, ◌++◌, Some, None, Option, refl, ap}
+use Rattle.std.proofs.Common.{rules, ◌≡◌, true, List, [], ◌∷◌, ◌++◌, Some, None, Option, refl, ap}
+use Rattle.std.specs.Option.{option_and_then}
 use Rattle.ladders.specs.declared.grammar.Position.{Position}
 use Rattle.ladders.specs.declared.grammar.Position.TheVariants.{First, Series, Group, Groups}
 use Rattle.ladders.specs.declared.step.Op.TheVariants.{Close, St}
@@ -8,30 +9,20 @@ use Rattle.ladders.specs.declared.step.Step.{Step}
 use Rattle.ladders.specs.Grammar.{coil_fits, position_after, next}
 use Rattle.ladders.specs.Steps.{role_of, step}
 
--- on from a position, if there is one
-abbrev pub on_from : Option Position → (Position → Option Position) → Option Position
-on_from None f = None
-on_from (Some p) f = f p
-
 -- the position after the steps from p, if each of them stands
 abbrev pub reach : Position → List Step → Option Position
 reach p [] = Some p
-reach p (s ∷ ss) = on_from (next p s) (λ q. reach q ss)
+reach p (s ∷ ss) = option_and_then (λ q. reach q ss) (next p s)
 
 -- steps after steps
-pub reach_append : (ss ts : List Step) (p : Position) → reach p (ss ++ ts) ≡ on_from (reach p ss) (λ q. reach q ts)
+pub reach_append : (ss ts : List Step) (p : Position) → reach p (ss ++ ts) ≡ option_and_then (λ q. reach q ts) (reach p ss)
 reach_append [] ts p = refl
 reach_append (s ∷ ss) ts p = go (next p s) (reach_append ss ts)
   where
-    go : (o : Option Position) → ((q : Position) → reach q (ss ++ ts) ≡ on_from (reach q ss) (λ v. reach v ts))
-        → on_from o (λ q. reach q (ss ++ ts)) ≡ on_from (on_from o (λ q. reach q ss)) (λ v. reach v ts)
+    go : (o : Option Position) → ((q : Position) → reach q (ss ++ ts) ≡ option_and_then (λ v. reach v ts) (reach q ss))
+        → option_and_then (λ q. reach q (ss ++ ts)) o ≡ option_and_then (λ v. reach v ts) (option_and_then (λ q. reach q ss) o)
     go None ih = refl
     go (Some q) ih = ih q
-
--- where the walk comes to an end, its first step stands
-pub first_stands : (o : Option Position) (f : Position → Option Position) (e : Position) → on_from o f ≡ Some e → (q : Position) × ((o ≡ Some q) × (f q ≡ Some e))
-first_stands None f e h = cc
-first_stands (Some q) f e h = (q, (refl, h))
 
 -- a step of a role that may stand, with a coil that fits
 pub next_is : (p q : Position) (s : Step) (r : Role) → role_of s.op ≡ r → coil_fits r s.coil ≡ true → position_after p r ≡ Some q → next p s ≡ Some q
@@ -40,7 +31,7 @@ next_is p q s r e fits after = rw (e, fits) after
 -- the same, with the steps that follow
 pub on_past : (p q : Position) (s : Step) (r : Role) (ss : List Step) → role_of s.op ≡ r → coil_fits r s.coil ≡ true → position_after p r ≡ Some q
     → reach p (s ∷ ss) ≡ reach q ss
-on_past p q s r ss e fits after = ap (λ (o : Option Position). on_from o (λ v. reach v ss)) (next_is p q s r e fits after)
+on_past p q s r ss e fits after = ap (option_and_then (λ v. reach v ss)) (next_is p q s r e fits after)
 
 -- steps that end the rung that a position is in
 abbrev pub ending : Position → List Step
@@ -50,7 +41,4 @@ ending Group = step Close 0 ∷ (step St 32 ∷ [])
 ending Groups = step St 32 ∷ []
 
 pub ending_reaches : (p : Position) → reach p (ending p) ≡ Some First
-ending_reaches First = refl
-ending_reaches Series = refl
-ending_reaches Group = refl
-ending_reaches Groups = refl
+ending_reaches p = search rules

@@ -1,6 +1,7 @@
 -- Whole rungs are walked along to the end.
-use Rattle.std.proofs.Common.{◌≡◌, ℕ, ◌<◌, ◌≤◌, Bool, true, false, cond, ◌&&◌, ltb, leb, List, [], ◌∷◌, ◌++◌, Some, refl, ap, ◌∙◌, arith}
+use Rattle.std.proofs.Common.{rules, ◌≡◌, ℕ, ◌<◌, ◌≤◌, Bool, true, false, cond, ◌&&◌, ltb, leb, List, [], ◌∷◌, ◌++◌, Some, refl, ap, ◌∙◌, arith}
 use Rattle.std.proofs.lemmas.List.{append_assoc}
+use Rattle.std.proofs.lemmas.Bool.{lt-ltb}
 use Rattle.std.proofs.lemmas.Bool.Decides.{nat_tests}
 use Rattle.std.specs.List.{flat_map, AllByRecursion}
 use Rattle.ladders.specs.declared.grammar.Position.{Position}
@@ -12,7 +13,7 @@ use Rattle.ladders.specs.declared.step.Role.TheVariants.{Loads, Joins, Opens, St
 use Rattle.ladders.specs.declared.step.Step.{Step}
 use Rattle.ladders.specs.Grammar.{position_after}
 use Rattle.ladders.specs.Ladders.{Whole}
-use Rattle.ladders.specs.Rungs.{Contact, Row, Store, puts, sets, resets, Rung, contact_step, joined_steps, group_steps, store_op, rung_steps, rungs_steps, ContactExists, RowExists, RungExists}
+use Rattle.ladders.specs.Rungs.{Contact, Row, Store, Rung, contact_step, joined_steps, group_steps, store_op, rung_steps, rungs_steps, ContactExists, RowExists, RungExists}
 use Rattle.ladders.specs.Steps.{role_of, step}
 use Rattle.ladders.proofs.Walks.{reach, on_past}
 
@@ -21,12 +22,7 @@ role_either true plain inverse r e d = d
 role_either false plain inverse r e d = e
 
 role_store : (s : Store) → role_of (store_op s) ≡ Stores
-role_store puts = refl
-role_store sets = refl
-role_store resets = refl
-
-exists : (n : ℕ) → n < 193 → ltb n 193 ≡ true
-exists n h = grind (arith, nat_tests)
+role_store s = search rules
 
 may_store : (n : ℕ) → 32 ≤ n → n < 193 → (leb 32 n && ltb n 193) ≡ true
 may_store n l h = grind (arith, nat_tests)
@@ -35,14 +31,14 @@ reach_joined : (p : Position) → position_after p Joins ≡ Some p → (cs : Li
     → reach p (joined_steps cs ++ rest) ≡ reach p rest
 reach_joined p stays [] h rest = refl
 reach_joined p stays (c ∷ cs) h rest =
-    on_past p p (contact_step And Andn c) Joins (joined_steps cs ++ rest) (role_either c.inverted And Andn Joins refl refl) (exists c.coil h.0) stays
+    on_past p p (contact_step And Andn c) Joins (joined_steps cs ++ rest) (role_either c.inverted And Andn Joins refl refl) (lt-ltb c.coil 193 h.0) stays
     ∙ reach_joined p stays cs h.1 rest
 
 reach_group : (p : Position) → position_after p Opens ≡ Some Group → (g : Row) → RowExists g → (rest : List Step)
     → reach p (group_steps g ++ rest) ≡ reach Groups rest
 reach_group p opens g h rest =
     on_past p Group (contact_step Or Orn g.first) Opens ((joined_steps g.others ++ (step Close 0 ∷ [])) ++ rest)
-    (role_either g.first.inverted Or Orn Opens refl refl) (exists g.first.coil h.0) opens
+    (role_either g.first.inverted Or Orn Opens refl refl) (lt-ltb g.first.coil 193 h.0) opens
     ∙ ap (reach Group) (append_assoc (joined_steps g.others) (step Close 0 ∷ []) rest)
     ∙ reach_joined Group refl g.others h.1 (step Close 0 ∷ rest)
 
@@ -61,7 +57,7 @@ reach_rung r h rest =
     let others = joined_steps r.row.others in
     let more = flat_map group_steps r.groups in
     on_past First Series (contact_step Ld Ldn r.row.first) Loads ((others ++ (more ++ stores)) ++ rest)
-    (role_either r.row.first.inverted Ld Ldn Loads refl refl) (exists r.row.first.coil h.0.0) refl
+    (role_either r.row.first.inverted Ld Ldn Loads refl refl) (lt-ltb r.row.first.coil 193 h.0.0) refl
     ∙ ap (reach Series) (append_assoc others (more ++ stores) rest)
     ∙ reach_joined Series refl r.row.others h.0.1 ((more ++ stores) ++ rest)
     ∙ ap (reach Series) (append_assoc more stores rest)

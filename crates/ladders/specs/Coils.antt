@@ -1,11 +1,12 @@
 -- The coils by name and by number.
-use Rattle.std.specs.Prelude.{◌≡◌, ℕ, ◌+◌, ◌-◌, cond, is_some, Some, None, Option, nat_lt}
+use Rattle.std.specs.Prelude.{◌≡◌, ℕ, ◌+◌, ◌-◌, if◌then◌else◌, is_some, Some, None, Option, nat_lt}
 use Rattle.ladders.specs.declared.coil.Coil.{Coil}
 use Rattle.ladders.specs.declared.coil.Coil.TheVariants.{Line, Start, Place, Transition, Output}
+use Rattle.ladders.specs.declared.coil.NoSuchCoil.{NoSuchCoil}
 
 -- a number, if there are so many
 abbrev pub if_below : ℕ → ℕ → ℕ → Option ℕ
-if_below count n number = cond (nat_lt n count) (Some number) None
+if_below count n number = if nat_lt n count then Some number else None
 
 -- the number of a coil, if there is such a coil: 32 lines, the start coil, 64 places, 64 transitions, 32 outputs
 abbrev pub number_of : Coil → Option ℕ
@@ -18,11 +19,16 @@ number_of (Output n) = if_below 32 n (161 + n)
 -- the coil of a number, if there is one
 abbrev pub coil_numbered : ℕ → Option Coil
 coil_numbered k =
-    cond (nat_lt k 32) (Some (Line k))
-    (cond (nat_lt k 33) (Some Start)
-    (cond (nat_lt k 97) (Some (Place (k - 33)))
-    (cond (nat_lt k 161) (Some (Transition (k - 97)))
-    (cond (nat_lt k 193) (Some (Output (k - 161))) None))))
+    if nat_lt k 32 then Some (Line k)
+    else if nat_lt k 33 then Some Start
+    else if nat_lt k 97 then Some (Place (k - 33))
+    else if nat_lt k 161 then Some (Transition (k - 97))
+    else if nat_lt k 193 then Some (Output (k - 161))
+    else None
+
+-- the error where there is no such coil
+abbrev pub no_such_coil : NoSuchCoil
+no_such_coil = record {}
 
 -- each number below 193 is that of one coil, and each coil has a number of its own
 pub record CoilNames : Type 0 where

@@ -1,8 +1,9 @@
 -- What a ladder is, by the form of its rungs, and where steps fail to be one.
 use Rattle.std.specs.Prelude.{◌≡◌, ℕ, ◌+◌, ◌<◌, ◌≤◌, ◌⊎◌, List, ◌++◌, length, take, Ok, Err, Result}
 use Rattle.std.specs.List.{AllByRecursion}
+use Rattle.ladders.specs.declared.grammar.Fault.{Fault}
 use Rattle.ladders.specs.declared.step.Step.{Step}
-use Rattle.ladders.specs.Grammar.{grammar}
+use Rattle.ladders.specs.Grammar.{fault, grammar}
 use Rattle.ladders.specs.Rungs.{Rung, RungExists, rungs_steps}
 
 -- the steps are whole rungs with coils that exist
@@ -26,11 +27,11 @@ pub record FailsAt (ss : List Step) (i : ℕ) : Type 0 where
   pub here : ((i ≡ length ss) × (Whole ss → ⊥)) ⊎ ((i < length ss) × ((i ≡ 2048) ⊎ (Begun (take (i + 1) ss) → ⊥)))
 
 -- an answer tells whether steps are a ladder, and where they fail to be one
-pub record Judged (ss : List Step) (r : Result (Unit {0}) ℕ) : Type 0 where
+pub record Judged (ss : List Step) (r : Result (Unit {0}) Fault) : Type 0 where
   pub accepted : r ≡ Ok tt → IsLadder ss
   pub each_accepted : IsLadder ss → r ≡ Ok tt
-  pub refused : (i : ℕ) → r ≡ Err i → FailsAt ss i
-  pub each_refused : (i : ℕ) → FailsAt ss i → r ≡ Err i
+  pub refused : (i : ℕ) → r ≡ Err (fault i) → FailsAt ss i
+  pub each_refused : (i : ℕ) → FailsAt ss i → r ≡ Err (fault i)
 
 -- the grammar tells of any steps whether they are a ladder, and where they fail to be one
 abbrev pub GrammarTells : Type 0

@@ -1,5 +1,5 @@
 -- Rungs by their form: which steps they are written as, and what they do to the coils.
-use Rattle.std.specs.Prelude.{◌≡◌, ℕ, ◌<◌, ◌≤◌, Bool, cond, List, [], ◌∷◌, ◌++◌, map, slice_set}
+use Rattle.std.specs.Prelude.{◌≡◌, ℕ, ◌<◌, ◌≤◌, Bool, if◌then◌else◌, List, [], ◌∷◌, ◌++◌, map, fold, slice_set}
 use Rattle.std.specs.List.{flat_map, AllByRecursion}
 use Rattle.levels.specs.Levels.{Operations}
 use Rattle.ladders.specs.declared.step.Op.{Op}
@@ -37,7 +37,7 @@ pub record Rung : Type 0 where
 
 -- one of two operations, the second for a contact that is inverted
 abbrev pub contact_step : Op → Op → Contact → Step
-contact_step plain inverse c = step (cond c.inverted inverse plain) c.coil
+contact_step plain inverse c = step (if c.inverted then inverse else plain) c.coil
 
 -- the contacts that are joined to the first of a row
 abbrev pub joined_steps : List Contact → List Step
@@ -79,12 +79,11 @@ RungExists r = RowExists r.row × AllByRecursion RowExists r.groups × (32 ≤ r
 
 -- the level of a contact: that of its coil, or the inverse
 abbrev pub contact_level : {L : Type 0} → Operations L → List L → Contact → L
-contact_level o xs c = cond c.inverted (o.inverse (level_at o xs c.coil)) (level_at o xs c.coil)
+contact_level o xs c = if c.inverted then o.inverse (level_at o xs c.coil) else level_at o xs c.coil
 
 -- both of a level and each of some contacts
 abbrev pub in_series : {L : Type 0} → Operations L → List L → L → List Contact → L
-in_series o xs x [] = x
-in_series o xs x (c ∷ cs) = in_series o xs (o.both x (contact_level o xs c)) cs
+in_series o xs x cs = fold (λ y c. o.both y (contact_level o xs c)) x cs
 
 -- the level of a row: both of all its contacts
 abbrev pub row_level : {L : Type 0} → Operations L → List L → Row → L
@@ -92,8 +91,7 @@ row_level o xs g = in_series o xs (contact_level o xs g.first) g.others
 
 -- either of a level and each of some rows
 abbrev pub beside : {L : Type 0} → Operations L → List L → L → List Row → L
-beside o xs x [] = x
-beside o xs x (g ∷ gs) = beside o xs (o.either x (row_level o xs g)) gs
+beside o xs x gs = fold (λ y g. o.either y (row_level o xs g)) x gs
 
 -- the result of a rung: either of its row and its groups
 abbrev pub rung_result : {L : Type 0} → Operations L → List L → Rung → L
@@ -111,8 +109,7 @@ after_rung o r xs = slice_set xs r.coil (kept_by o r.store (rung_result o xs r) 
 
 -- the coils after rungs, one after the other
 abbrev pub after_rungs : {L : Type 0} → Operations L → List Rung → List L → List L
-after_rungs o [] xs = xs
-after_rungs o (r ∷ rs) xs = after_rungs o rs (after_rung o r xs)
+after_rungs o rs xs = fold (λ ys r. after_rung o r ys) xs rs
 
 -- the run of the steps of any rungs does what the rungs do, one after the other
 abbrev pub RungsInTurn : {L : Type 0} → Operations L → Type 0

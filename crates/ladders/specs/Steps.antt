@@ -1,5 +1,5 @@
 -- The operations of steps.
-use Rattle.std.specs.Prelude.{ℕ}
+use Rattle.std.specs.Prelude.{ℕ, Bool, true, false}
 use Rattle.ladders.specs.declared.step.Op.{Op}
 use Rattle.ladders.specs.declared.step.Op.TheVariants.{Ld, Ldn, And, Andn, Or, Orn, Close, St, S, R}
 use Rattle.ladders.specs.declared.step.Role.{Role}
@@ -18,6 +18,13 @@ role_of Close = Closes
 role_of St = Stores
 role_of S = Stores
 role_of R = Stores
+
+-- whether an operation takes the inverse of its coil
+abbrev pub inverts : Op → Bool
+inverts Ldn = true
+inverts Andn = true
+inverts Orn = true
+inverts _ = false
 
 -- a step, by its operation and its coil
 abbrev pub step : Op → ℕ → Step

@@ -1,6 +1,10 @@
 // The coils by name, and their numbers: lines, the start coil, places, transitions, outputs, one after the other.
-ghost use Rattle.std.specs.Prelude.{◌≡◌};
-ghost use Rattle.ladders.specs.Coils.{coil_numbered, number_of};
+ghost use Rattle.std.specs.Prelude.{◌≡◌, Some, codes};
+ghost use Rattle.std.specs.Option.{ok_or};
+ghost use Rattle.ladders.specs.Coils.{coil_numbered, number_of, no_such_coil};
+
+use std::error::Error;
+use std::fmt;
 
 const LINES: u16 = 32;
 
@@ -26,7 +30,7 @@ pub const FIRST_OUTPUT: u16 = FIRST_TRANSITION + TRANSITIONS;
 pub const COILS: u16 = FIRST_OUTPUT + OUTPUTS;
 
 // A coil: that of a line, the start coil, that of a place, of a transition or of an output.
-#[derive(Clone, Copy)]
+#[derive(Clone, Copy, Debug, PartialEq, Eq)]
 pub enum Coil {
     Line(u16),
     Start,
@@ -35,37 +39,53 @@ pub enum Coil {
     Output(u16),
 }
 
-impl Coil {
-    // The coil of this number, if there is one.
-    pub fn numbered(number: u16) -> Option<Coil>
-        ensures { result ≡ coil_numbered number }
-    {
-        if number < START {
-            Some(Coil::Line(number))
-        } else if number < FIRST_PLACE {
-            Some(Coil::Start)
-        } else if number < FIRST_TRANSITION {
-            Some(Coil::Place(number - FIRST_PLACE))
-        } else if number < FIRST_OUTPUT {
-            Some(Coil::Transition(number - FIRST_TRANSITION))
-        } else if number < COILS {
-            Some(Coil::Output(number - FIRST_OUTPUT))
-        } else {
-            None
+// There is no such coil: the number is that of none, or the board has no such line, place, transition or output.
+#[derive(Clone, Copy, Debug, PartialEq, Eq)]
+pub struct NoSuchCoil;
+
+impl fmt::Display for NoSuchCoil {
+    ghost output = { λ _. Some (codes "there is no such coil") };
+
+    fn fmt<W: fmt::Write>(&self, f: &mut fmt::Formatter<W>) -> fmt::Result {
+        f.write_str("there is no such coil")
+    }
+}
+
+impl Error for NoSuchCoil {}
+
+// The coil of a number.
+impl TryFrom<u16> for Coil {
+    type Error = NoSuchCoil;
+
+    ghost try_from_gives = { λ number r. r ≡ ok_or (coil_numbered number) no_such_coil };
+
+    fn try_from(number: u16) -> Result<Coil, NoSuchCoil> {
+        // An arm for each kind of coil: one function for all would take the ends of the range and the constructor.
+        match number {
+            ..START => Ok(Coil::Line(number)),
+            START => Ok(Coil::Start),
+            FIRST_PLACE..FIRST_TRANSITION => Ok(Coil::Place(number - FIRST_PLACE)),
+            FIRST_TRANSITION..FIRST_OUTPUT => Ok(Coil::Transition(number - FIRST_TRANSITION)),
+            FIRST_OUTPUT..COILS => Ok(Coil::Output(number - FIRST_OUTPUT)),
+            _ => Err(NoSuchCoil),
         }
     }
+}
 
-    // The number of this coil, if there is such a coil.
-    pub fn number(self) -> Option<u16>
-        ensures { result ≡ number_of self }
-    {
-        match self {
-            Coil::Line(n) if n < LINES => Some(n),
-            Coil::Start => Some(START),
-            Coil::Place(n) if n < PLACES => Some(FIRST_PLACE + n),
-            Coil::Transition(n) if n < TRANSITIONS => Some(FIRST_TRANSITION + n),
-            Coil::Output(n) if n < OUTPUTS => Some(FIRST_OUTPUT + n),
-            _ => None,
+// The number of a coil.
+impl TryFrom<Coil> for u16 {
+    type Error = NoSuchCoil;
+
+    ghost try_from_gives = { λ coil r. r ≡ ok_or (number_of coil) no_such_coil };
+
+    fn try_from(coil: Coil) -> Result<u16, NoSuchCoil> {
+        match coil {
+            Coil::Line(n) if n < LINES => Ok(n),
+            Coil::Start => Ok(START),
+            Coil::Place(n) if n < PLACES => Ok(FIRST_PLACE + n),
+            Coil::Transition(n) if n < TRANSITIONS => Ok(FIRST_TRANSITION + n),
+            Coil::Output(n) if n < OUTPUTS => Ok(FIRST_OUTPUT + n),
+            _ => Err(NoSuchCoil),
         }
     }
 }

@@ -2,7 +2,7 @@
 ghost use Rattle.std.specs.Prelude.{◌≡◌};
 ghost use Rattle.ladders.specs.Flows.{no_flow, joined_flow, closed_flow, flowing};
 
-use crate::step::Op;
+use crate::step::{Op, Role};
 use levels::Level;
 
 #[derive(Clone, Copy)]
@@ -28,12 +28,12 @@ impl<L: Level> Flow<L> {
     {
         match self.group {
             Some(group) => Flow {
-                result: self.result,
                 group: Some(group.both(x)),
+                ..self
             },
             None => Flow {
                 result: self.result.both(x),
-                group: None,
+                ..self
             },
         }
     }
@@ -55,27 +55,20 @@ impl<L: Level> Flow<L> {
     pub(crate) fn after(self, op: Op, x: L) -> Flow<L>
         ensures { result ≡ flowing L.operations op x self }
     {
-        match op {
-            Op::Ld => Flow {
-                result: x,
+        let level = if op.inverts() { x.inverse() } else { x };
+        // A `match`: in a table of closures each role would still be a line, and one could be left out.
+        match op.role() {
+            Role::Loads => Flow {
+                result: level,
                 group: None,
             },
-            Op::Ldn => Flow {
-                result: x.inverse(),
-                group: None,
+            Role::Joins => self.join(level),
+            Role::Opens => Flow {
+                group: Some(level),
+                ..self
             },
-            Op::And => self.join(x),
-            Op::Andn => self.join(x.inverse()),
-            Op::Or => Flow {
-                result: self.result,
-                group: Some(x),
-            },
-            Op::Orn => Flow {
-                result: self.result,
-                group: Some(x.inverse()),
-            },
-            Op::Close => self.close(),
-            Op::St | Op::S | Op::R => self,
+            Role::Closes => self.close(),
+            Role::Stores => self,
         }
     }
 }

@@ -1,12 +1,31 @@
 // Which steps are a ladder: whole rungs, at most 2,048 steps.
-ghost use Rattle.std.specs.Prelude.{◌≡◌};
+ghost use Rattle.std.specs.Prelude.{◌≡◌, ◌++◌, Some, codes};
+ghost use Rattle.std.specs.Fmt.{decimal};
 ghost use Rattle.ladders.specs.Grammar.{coil_fits, position_after, next, next_at, ended, grammar};
 
 use crate::coil::{COILS, START};
 use crate::step::{Role, Step};
+use std::error::Error;
+use std::fmt;
 
 // The most steps of a ladder.
 pub const MAX_STEPS: usize = 2048;
+
+// Where steps fail to be a ladder: at the first that cannot stand, or after the last where they end in mid-rung.
+#[derive(Clone, Copy, Debug, PartialEq, Eq)]
+pub struct Fault {
+    pub index: usize,
+}
+
+impl fmt::Display for Fault {
+    ghost output = { λ fault. Some (codes "no ladder from step " ++ decimal fault.index ++ codes " on") };
+
+    fn fmt<W: fmt::Write>(&self, f: &mut fmt::Formatter<W>) -> fmt::Result {
+        write!(f, "no ladder from step {} on", self.index)
+    }
+}
+
+impl Error for Fault {}
 
 // Where in a rung a step stands: first, after what the rung has in series, in a group, or after a group.
 #[derive(Clone, Copy)]
@@ -23,7 +42,7 @@ fn coil_fits(role: Role, coil: u16) -> bool
 {
     match role {
         Role::Closes => coil == 0,
-        Role::Stores => START <= coil && coil < COILS,
+        Role::Stores => (START..COILS).contains(&coil),
         _ => coil < COILS,
     }
 }
@@ -67,25 +86,23 @@ fn next_at(index: usize, position: Position, step: Step) -> Option<Position>
 }
 
 // The answer where the steps end, `count` of them, before a step at `position`.
-fn at_end(position: Position, count: usize) -> Result<(), usize>
+fn at_end(position: Position, count: usize) -> Result<(), Fault>
     ensures { result ≡ ended position count }
 {
     match position {
         Position::First => Ok(()),
-        _ => Err(count),
+        _ => Err(Fault { index: count }),
     }
 }
 
 // `Ok` of a ladder, else where the steps fail to be one.
-fn first_fault(steps: &[Step]) -> Result<(), usize>
+fn first_fault(steps: &[Step]) -> Result<(), Fault>
     ensures { result ≡ grammar steps.now }
 {
+    // No `try_fold`: it reads no plainer than a `for` with `?`, and the proof of its answer stayed open.
     let mut position = Position::First;
     for (index, step) in steps.iter().enumerate() {
-        match next_at(index, position, *step) {
-            Some(next) => position = next,
-            None => return Err(index),
-        }
+        position = next_at(index, position, *step).ok_or(Fault { index })?;
     }
     at_end(position, steps.len())
 }

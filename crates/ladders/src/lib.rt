@@ -8,7 +8,7 @@ mod laws;
 mod run;
 mod step;
 
-pub use coil::{COILS, Coil};
-pub use grammar::MAX_STEPS;
+pub use coil::{COILS, Coil, NoSuchCoil};
+pub use grammar::{Fault, MAX_STEPS};
 pub use laws::ladder_laws_hold;
 pub use step::{Op, Role, Step};

@@ -1,9 +1,9 @@
 // The steps of a ladder: an operation, and the number of the coil that it names.
 ghost use Rattle.std.specs.Prelude.{◌≡◌};
-ghost use Rattle.ladders.specs.Steps.{role_of};
+ghost use Rattle.ladders.specs.Steps.{role_of, inverts};
 
 // The operations. `Or` and `Orn` open a group, which `Close` closes.
-#[derive(Clone, Copy)]
+#[derive(Clone, Copy, Debug, PartialEq, Eq)]
 pub enum Op {
     Ld,
     Ldn,
@@ -18,7 +18,7 @@ pub enum Op {
 }
 
 // What an operation does in a rung.
-#[derive(Clone, Copy)]
+#[derive(Clone, Copy, Debug, PartialEq, Eq)]
 pub enum Role {
     Loads,
     Joins,
@@ -27,9 +27,10 @@ pub enum Role {
     Stores,
 }
 
-#[derive(Clone, Copy)]
+#[derive(Clone, Copy, Debug, PartialEq, Eq)]
 pub struct Step {
     pub op: Op,
+    // A number and no `Coil`: steps come untested, and may name a coil that does not exist.
     pub coil: u16,
 }
 
@@ -45,5 +46,12 @@ impl Op {
             Op::Close => Role::Closes,
             Op::St | Op::S | Op::R => Role::Stores,
         }
+    }
+
+    // Whether the operation takes the inverse of its coil.
+    pub(crate) fn inverts(self) -> bool
+        ensures { result ≡ inverts self }
+    {
+        matches!(self, Op::Ldn | Op::Andn | Op::Orn)
     }
 }

@@ -25,6 +25,7 @@ pub trait Level: Copy {
         ensures { result ≡ operations.inverse self };
 
     // The plain level that this one admits, if it admits just one.
+    // A method and no `TryFrom`, for which each function over a `Level` would need a second bound, on `bool`.
     fn plain(self) -> Option<bool>
         ensures { result ≡ the_only (admits self) };
 

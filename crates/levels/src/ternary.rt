@@ -3,11 +3,13 @@ ghost use Rattle.levels.specs.Ternaries.{ternary_admits, ternary_operations, ter
 
 use crate::level::Level;
 
-#[derive(Clone, Copy)]
+// An enum of its own: `?`, `zip` and the like on an `Option<bool>` would make unknown of low and unknown, which is low.
+// From low to high, with unknown between them.
+#[derive(Clone, Copy, Debug, PartialEq, Eq, PartialOrd, Ord)]
 pub enum Ternary {
     Low,
-    High,
     Unknown,
+    High,
 }
 
 impl Level for Ternary {
@@ -26,19 +28,11 @@ impl Level for Ternary {
     }
 
     fn both(self, other: Ternary) -> Ternary {
-        match (self, other) {
-            (Ternary::Low, _) | (_, Ternary::Low) => Ternary::Low,
-            (Ternary::High, Ternary::High) => Ternary::High,
-            _ => Ternary::Unknown,
-        }
+        self.min(other)
     }
 
     fn either(self, other: Ternary) -> Ternary {
-        match (self, other) {
-            (Ternary::High, _) | (_, Ternary::High) => Ternary::High,
-            (Ternary::Low, Ternary::Low) => Ternary::Low,
-            _ => Ternary::Unknown,
-        }
+        self.max(other)
     }
 
     fn inverse(self) -> Ternary {
