@@ -1,13 +1,14 @@
 -- What the code's shifts and masks say of the sets.
 use Rattle.std.proofs.Common.{◌≡◌, ℕ, ◌-◌, ◌*◌, ◌/◌, ◌%◌, ◌^◌, ◌<◌, ◌≤◌, min, eqb, ap, ◌∙◌, arith, pow_pos, pow_mono}
-use lib.Bits.{bit_and, and_mask}
+use lib.Bits.{bit_and}
+use Rattle.std.proofs.lemmas.Nat.Bits.{shr_and_one}
 use Rattle.std.proofs.lemmas.Nat.{one_shl}
 use Rattle.bitset.specs.Sets.{has, only, below}
 
 -- `w >> n & 1 == 1`
 pub bit_is : (w n : ℕ) → eqb (bit_and (w / 2 ^ n) 1) 1 ≡ has w n
 unfolding has
-bit_is w n = ap (λ (x : ℕ). eqb x 1) (and_mask (w / 2 ^ n) 1)
+bit_is w n = ap (λ (x : ℕ). eqb x 1) (shr_and_one w n)
 
 -- `1 << n` at a width of k bits
 pub only_shl : (k n : ℕ) → n < k → (1 * 2 ^ n) % 2 ^ k ≡ only n

@@ -1,87 +1,78 @@
 -- Words as sets: what is in each, and that a word is known by what is in it.
-use Rattle.std.proofs.Common.{◌≡◌, ℕ, zero, suc, ◌+◌, ◌-◌, ◌/◌, ◌%◌, ◌^◌, ◌<◌, ◌≤◌, min, max, Bool, true, false, cond, not, ◌&&◌, ◌||◌, eqb, ltb, List, [], ◌∷◌, ◌++◌, length, Some, None, sym, refl, ap, ◌∙◌, subst, ap₂, ⊎_elim, pow-suc, div-one, arith, length-append, pow_pos, pow_mono}
-use native.Mathlib.Nat.{pow-succ', zero-div, div-div-eq-div-mul, div-eq_of_lt}
-use lib.Arith.{bin_ind}
-use lib.Bits.{bit_and, bit_or, and_step, or_step, and_le_l, and_comm}
-use lib.Dec.{eqb-suc-suc, eqb-zero-suc, eqb-suc-zero, leb-suc-suc}
-use lib.Count.{count_trailing_zeros, under, ones, ones_step}
-use Rattle.std.proofs.lemmas.Bool.{eq-eqb, ne_eqb, eqb-true, eqb-false, lt-ltb, le-ltb, cases_lt}
+use Rattle.std.proofs.Common.{◌≡◌, ℕ, zero, suc, ◌+◌, ◌-◌, ◌/◌, ◌%◌, ◌^◌, ◌<◌, ◌≤◌, min, Bool, true, false, cond, not, ◌&&◌, ◌||◌, eqb, ltb, List, [], ◌∷◌, ◌++◌, length, Some, None, sym, refl, ap, ◌∙◌, subst, ap₂, ⊎_elim, pow-suc, arith, length-append}
+use lib.Bits.{bit_and, bit_or, and_step, and_le_l, and_comm}
+use lib.Count.{count_trailing_zeros, ones, ones_step}
+use mir.Syntax.{w64}
+use Rattle.std.specs.Int.{bit_at}
+use Rattle.std.proofs.lemmas.Nat.Bits.{bit_at_lowest, bit_at-suc, bit_at-zero, bit_at_and, bit_at_or, bit_at-pow_same, bit_at-pow_other, bit_at_ones, bit_at_ones_above, bit_at_not, bit_at-trailing_zeros, bit_at-lt, bit_at_above, same_from_bits}
+use Rattle.std.proofs.lemmas.Bool.{eq-eqb, ne_eqb, eqb-true, lt-ltb, cases_lt, cases_eq}
 use Rattle.std.proofs.lemmas.Bool.Decides.{nat_tests}
 use Rattle.bitset.specs.Lists.{first_of}
 use Rattle.bitset.proofs.Lists.{first_joined}
 use Rattle.bitset.specs.Sets.{has, within, apart, without, only, below, members, tell, count}
 
--- ONE BIT AFTER THE OTHER
+-- ONE BIT: has w n is that bit n of w is 1
 
+-- a test of bits, by what the library says of the bits
 pub has_first : (w : ℕ) → has w 0 ≡ eqb (w % 2) 1
 unfolding has
-has_first w = ap (λ (x : ℕ). eqb (x % 2) 1) (div-one w)
+has_first w = ap (λ (x : ℕ). eqb x 1) (bit_at_lowest w)
 
 pub has_next : (w n : ℕ) → has w (suc n) ≡ has (w / 2) n
 unfolding has
-has_next w n =
-    ap (λ (x : ℕ). eqb (w / x % 2) 1) (pow-succ' 2 n) ∙ ap (λ (x : ℕ). eqb (x % 2) 1) (sym (div-div-eq-div-mul w 2 (2 ^ n)))
-
--- an operation that works on each bit apart
-module _ (op : ℕ → ℕ → ℕ) (f : Bool → Bool → Bool)
-    (half : (a b : ℕ) → op a b / 2 ≡ op (a / 2) (b / 2))
-    (odd : (a b : ℕ) → eqb (op a b % 2) 1 ≡ f (eqb (a % 2) 1) (eqb (b % 2) 1)) where
-  has_op : (a b n : ℕ) → has (op a b) n ≡ f (has a n) (has b n)
-  has_op a b zero = has_first (op a b) ∙ odd a b ∙ ap₂ f (sym (has_first a)) (sym (has_first b))
-  has_op a b (suc n) =
-      has_next (op a b) n ∙ ap (λ (x : ℕ). has x n) (half a b) ∙ has_op (a / 2) (b / 2) n ∙ ap₂ f (sym (has_next a n)) (sym (has_next b n))
+has_next w n = ap (λ (x : ℕ). eqb x 1) (bit_at-suc w n)
 
 -- WHAT IS IN EACH
 
 pub has_and : (a b n : ℕ) → has (bit_and a b) n ≡ (has a n && has b n)
-has_and = has_op bit_and ◌&&◌ (λ a b. omega (arith, and_step a b))
-    (λ a b. let e : bit_and a b % 2 ≡ min (a % 2) (b % 2) = omega (arith, and_step a b) in grind (arith, nat_tests))
+unfolding has
+has_and a b n = let s = bit_at_and a b n in let l = bit_at-lt a n in let m = bit_at-lt b n in grind (arith, nat_tests)
 
 pub has_or : (a b n : ℕ) → has (bit_or a b) n ≡ (has a n || has b n)
-has_or = has_op bit_or ◌||◌ (λ a b. omega (arith, or_step a b))
-    (λ a b. let e : bit_or a b % 2 ≡ max (a % 2) (b % 2) = omega (arith, or_step a b) in grind (arith, nat_tests))
+unfolding has
+has_or a b n = let s = bit_at_or a b n in let l = bit_at-lt a n in let m = bit_at-lt b n in grind (arith, nat_tests)
 
 pub has-without : (a b n : ℕ) → has (without a b) n ≡ (has a n && not (has b n))
 unfolding without
-has-without = has_op without (λ x y. x && not y) (λ a b. omega (arith, and_step a b, and_le_l (a / 2) (b / 2)))
-    (λ a b. let e : without a b % 2 ≡ a % 2 - min (a % 2) (b % 2) = omega (arith, and_step a b, and_le_l (a / 2) (b / 2)) in grind (arith, nat_tests))
+has-without a b zero =
+    let s = and_step a b in
+    let l = and_le_l (a / 2) (b / 2) in
+    let x = has_first a in
+    let y = has_first b in
+    let e : without a b % 2 ≡ a % 2 - min (a % 2) (b % 2) = omega arith in
+    has_first (without a b) ∙ grind (arith, nat_tests)
+has-without a b (suc n) =
+    let s = and_step a b in
+    let l = and_le_l (a / 2) (b / 2) in
+    let e : without a b / 2 ≡ without (a / 2) (b / 2) = omega arith in
+    has_next (without a b) n ∙ ap (λ (x : ℕ). has x n) e ∙ has-without (a / 2) (b / 2) n
+    ∙ ap₂ (λ x y. x && not y) (sym (has_next a n)) (sym (has_next b n))
 
 pub has_none : (n : ℕ) → has 0 n ≡ false
 unfolding has
-has_none n = ap (λ (x : ℕ). eqb (x % 2) 1) (zero-div (2 ^ n))
+has_none n = ap (λ (x : ℕ). eqb x 1) (bit_at-zero n)
 
 pub has-only : (k n : ℕ) → has (only k) n ≡ eqb n k
-unfolding only
-has-only zero zero = has_first 1
-has-only zero (suc n) = has_next 1 n ∙ has_none n ∙ sym (eqb-suc-zero n)
-has-only (suc k) zero = has_first (2 ^ suc k) ∙ ne_eqb (2 ^ suc k % 2) 1 (λ e. omega (arith, pow-suc 2 k)) ∙ sym (eqb-zero-suc k)
-has-only (suc k) (suc n) =
-    let e : 2 ^ suc k / 2 ≡ 2 ^ k = omega (arith, pow-suc 2 k) in
-    has_next (2 ^ suc k) n ∙ ap (λ (x : ℕ). has x n) e ∙ has-only k n ∙ sym (eqb-suc-suc n k)
+unfolding has only
+has-only k n = ⊎_elim
+    (λ e. subst (λ (x : ℕ). eqb (bit_at (2 ^ k) x) 1 ≡ eqb x k) (sym e) (let b = bit_at-pow_same k in grind (arith, nat_tests)))
+    (λ e. let b = bit_at-pow_other k n e in grind (arith, nat_tests))
+    (cases_eq n k)
 
 -- A WORD IS KNOWN BY WHAT IS IN IT
 
-empty : (b : ℕ) → ((n : ℕ) → has b n ≡ false) → b ≡ 0
-empty = bin_ind (λ (b : ℕ). ((n : ℕ) → has b n ≡ false) → b ≡ 0) (λ h. refl)
-    (λ b ih h.
-    let high : b / 2 ≡ 0 = ih (λ n. sym (has_next b n) ∙ h (suc n)) in
-    let low = eqb-false (b % 2) 1 (sym (has_first b) ∙ h 0) in
-    let odd : b % 2 ≡ 1 → ⊥ = low in
-    omega arith)
-
 pub same_word : (a b : ℕ) → ((n : ℕ) → has a n ≡ has b n) → a ≡ b
-same_word = bin_ind (λ (a : ℕ). (b : ℕ) → ((n : ℕ) → has a n ≡ has b n) → a ≡ b)
-    (λ b h. sym (empty b (λ n. sym (h n) ∙ has_none n)))
-    (λ a ih b h.
-    let high : a / 2 ≡ b / 2 = ih (b / 2) (λ n. sym (has_next a n) ∙ h (suc n) ∙ has_next b n) in
-    let low : eqb (a % 2) 1 ≡ eqb (b % 2) 1 = sym (has_first a) ∙ h 0 ∙ has_first b in
-    grind (arith, nat_tests))
+unfolding has
+same_word a b h = same_from_bits a b (λ n. let e = h n in let l = bit_at-lt a n in let m = bit_at-lt b n in grind (arith, nat_tests))
+
+empty : (b : ℕ) → ((n : ℕ) → has b n ≡ false) → b ≡ 0
+empty b h = same_word b 0 (λ n. h n ∙ sym (has_none n))
 
 -- BOUNDS
 
 pub has_past : (w k n : ℕ) → w < 2 ^ k → k ≤ n → has w n ≡ false
 unfolding has
-has_past w k n h l = ap (λ (x : ℕ). eqb (x % 2) 1) (div-eq_of_lt (let p : 2 ^ k ≤ 2 ^ n = pow_mono l in omega arith))
+has_past w k n h l = ap (λ (x : ℕ). eqb x 1) (bit_at_above w k n h l)
 
 pub below_from_has : (k w : ℕ) → ((n : ℕ) → k ≤ n → has w n ≡ false) → w < 2 ^ k
 below_from_has zero w h = let e = empty w (λ n. h n (omega arith)) in omega arith
@@ -162,57 +153,33 @@ apart_by a b w e f = apart_from a b (λ n h. let p = within_each a w e n in let 
 
 -- COMPLEMENTS, AND WHAT THE PROCESSOR COUNTS
 
--- what `!a` holds at a width of k bits
-pub has_complement : (k a n : ℕ) → a < 2 ^ k → has (2 ^ k - 1 - a) n ≡ (ltb n k && not (has a n))
-has_complement zero a n h = let e : 2 ^ 0 - 1 - a ≡ 0 = omega arith in ap (λ (x : ℕ). has x n) e ∙ has_none n ∙ ap (λ b. b && not (has a n)) (sym (le-ltb n 0 (omega arith)))
-has_complement (suc k) a zero h =
-    let p = pow-suc 2 k in
-    let e : (2 ^ suc k - 1 - a) % 2 ≡ 1 - a % 2 = omega arith in
-    let f = has_first (2 ^ suc k - 1 - a) in
-    let g = has_first a in
-    let l = lt-ltb 0 (suc k) (omega arith) in
-    grind (arith, nat_tests)
-has_complement (suc k) a (suc n) h =
-    let p = pow-suc 2 k in
-    let e : (2 ^ suc k - 1 - a) / 2 ≡ 2 ^ k - 1 - a / 2 = omega arith in
-    has_next (2 ^ suc k - 1 - a) n ∙ ap (λ (x : ℕ). has x n) e ∙ has_complement k (a / 2) n (omega arith)
-    ∙ ap₂ (λ b c. b && not c) (sym (leb-suc-suc (suc n) k)) (sym (has_next a n))
-
 pub has-below : (k n : ℕ) → has (below k) n ≡ ltb n k
-unfolding below
-has-below k n =
-    let e : 2 ^ k - 1 ≡ 2 ^ k - 1 - 0 = omega arith in
-    ap (λ (x : ℕ). has x n) e ∙ has_complement k 0 n (pow_pos k) ∙ ap (λ b. ltb n k && not b) (has_none n) ∙ and_true_r (ltb n k)
-  where
-    and_true_r : (b : Bool) → (b && true) ≡ b
-    and_true_r true = refl
-    and_true_r false = refl
+unfolding has below
+has-below k n = ⊎_elim
+    (λ l. let b = bit_at_ones k n l in grind (arith, nat_tests))
+    (λ l. let b = bit_at_ones_above k n l in grind (arith, nat_tests))
+    (cases_lt n k)
+
+-- what `!a` holds at a width of 64 bits
+has_complement : (a n : ℕ) → a < 2 ^ 64 → n < 64 → has (2 ^ 64 - 1 - a) n ≡ not (has a n)
+unfolding has
+has_complement a n h l = let b = bit_at_not w64 a n h l in let m = bit_at-lt a n in grind (arith, nat_tests)
 
 -- `m & !a`
-pub and_complement : (k m a : ℕ) → m < 2 ^ k → a < 2 ^ k → bit_and m (2 ^ k - 1 - a) ≡ without m a
-and_complement k m a h l = same_word (bit_and m (2 ^ k - 1 - a)) (without m a) (λ n.
-    has_and m (2 ^ k - 1 - a) n ∙ ap (λ b. has m n && b) (has_complement k a n l) ∙ ⊎_elim
-    (λ j. ap (λ b. has m n && (b && not (has a n))) (lt-ltb n k j))
-    (λ j. let e = has_past m k n h j in grind arith) (cases_lt n k)
+pub and_complement : (m a : ℕ) → m < 2 ^ 64 → a < 2 ^ 64 → bit_and m (2 ^ 64 - 1 - a) ≡ without m a
+and_complement m a h l = same_word (bit_and m (2 ^ 64 - 1 - a)) (without m a) (λ n.
+    has_and m (2 ^ 64 - 1 - a) n ∙ ⊎_elim
+    (λ j. ap (λ b. has m n && b) (has_complement a n l j))
+    (λ j. let e = has_past m 64 n h j in grind arith) (cases_lt n 64)
     ∙ sym (has-without m a n))
 
 -- `trailing_zeros` names the least member
-pub trailing_least : (k w : ℕ) → ((x : ℕ) → x < count_trailing_zeros k w → has w x ≡ false) × (count_trailing_zeros k w < k → has w (count_trailing_zeros k w) ≡ true)
-unfolding count_trailing_zeros
-trailing_least zero w = (λ x h. absurd (omega arith), λ h. absurd (omega arith))
-trailing_least (suc k) w = go (w % 2) refl (trailing_least k (w / 2))
-  where
-    go : (d : ℕ) → w % 2 ≡ d → ((x : ℕ) → x < count_trailing_zeros k (w / 2) → has (w / 2) x ≡ false) × (count_trailing_zeros k (w / 2) < k → has (w / 2) (count_trailing_zeros k (w / 2)) ≡ true)
-        → ((x : ℕ) → x < under d (count_trailing_zeros k (w / 2)) → has w x ≡ false) × (under d (count_trailing_zeros k (w / 2)) < suc k → has w (under d (count_trailing_zeros k (w / 2))) ≡ true)
-    go zero e ih = (below, λ h. has_next w (count_trailing_zeros k (w / 2)) ∙ ih.1 (omega arith))
-      where
-        below : (x : ℕ) → x < suc (count_trailing_zeros k (w / 2)) → has w x ≡ false
-        below zero h = has_first w ∙ ap (λ (y : ℕ). eqb y 1) e
-        below (suc x) h = has_next w x ∙ ih.0 x (omega arith)
-    go (suc d) e ih = (λ x h. absurd (omega arith), λ h. has_first w ∙ eq-eqb (w % 2) 1 (omega arith))
-
-pub trailing_below : (k w : ℕ) → w < 2 ^ k → (w ≡ 0 → ⊥) → count_trailing_zeros k w < k
-trailing_below k w h ne = ⊎_elim (λ l. l) (λ l. absurd (ne (empty w (λ n. ⊎_elim (λ j. (trailing_least k w).0 n (omega arith)) (λ j. has_past w k n h j) (cases_lt n k))))) (cases_lt (count_trailing_zeros k w) k)
+pub trailing_least : (w : ℕ) → 0 < w → w < 2 ^ 64
+    → (count_trailing_zeros 64 w < 64) × (has w (count_trailing_zeros 64 w) ≡ true) × ((x : ℕ) → x < count_trailing_zeros 64 w → has w x ≡ false)
+unfolding has
+trailing_least w h l =
+    let t = bit_at-trailing_zeros w64 w h l in
+    (t.0, ap (λ (x : ℕ). eqb x 1) t.1, λ x m. ap (λ (x : ℕ). eqb x 1) (t.2 x m))
 
 -- one more place, above or below
 length_more : (w k : ℕ) → length (members w (suc k)) ≡ length (members w k) + tell (has w k)

@@ -6,5 +6,5 @@ use Rattle.bitset.proofs.set.Set.without.Goals as goal
 pub returns : goal.returns
 returns g c =
     c.from.ensures
-    ∙ and_complement 64 c.self.inside.word c.other.inside.word (omega arith) (omega arith)
+    ∙ and_complement c.self.inside.word c.other.inside.word (omega arith) (omega arith)
     ∙ ap₂ without c.self.view_is c.other.view_is
