@@ -10,17 +10,17 @@ use std::marker::{Model, PhantomData};
 const ROOM: usize = 64;
 
 // What a set is of; a set of places is no set of transitions.
-#[derive(Clone, Copy, PartialEq, Eq)]
+#[derive(Clone, Copy, Debug, PartialEq, Eq)]
 pub struct Places;
 
-#[derive(Clone, Copy, PartialEq, Eq)]
+#[derive(Clone, Copy, Debug, PartialEq, Eq)]
 pub struct Transitions;
 
 pub type PlaceSet = Set<Places>;
 
 pub type TransitionSet = Set<Transitions>;
 
-#[derive_where(Clone, Copy, PartialEq, Eq)]
+#[derive_where(Clone, Copy, Debug, PartialEq, Eq)]
 pub struct Set<K> {
     word: u64,
     of: PhantomData<K>,

@@ -7,7 +7,7 @@ use crate::records::Record;
 use netlayout::{RecordFault, Refusal, Table};
 use nets::{ArcKind, Net};
 
-// An arc as the file has it: its transition, its place and the number of its kind.
+// An arc as the file has it: its transition, its place and the number of its kind, untested: a rule names a wrong one.
 #[derive(Clone, Copy)]
 pub struct ArcRecord {
     pub transition: usize,

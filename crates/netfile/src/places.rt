@@ -8,7 +8,7 @@ use bitset::Word;
 use netlayout::{RecordFault, Refusal, Table};
 use nets::Net;
 
-// A place as the file has it: its start mark, and the outputs that it raises.
+// A place as the file has it: its start mark, untested as a rule names a wrong one, and the outputs that it raises.
 #[derive(Clone, Copy)]
 pub struct PlaceRecord {
     pub mark: u8,

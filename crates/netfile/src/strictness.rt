@@ -1,5 +1,5 @@
 // How closely a net file is checked.
-#[derive(Clone, Copy)]
+#[derive(Clone, Copy, Debug, PartialEq, Eq)]
 pub enum Strictness {
     // By the rules on its layout and its records.
     Plain,

@@ -1,4 +1,5 @@
 pub mod Tables
 pub mod Codes
+pub mod Names
 pub mod Layouts
 pub mod Rules

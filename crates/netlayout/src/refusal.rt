@@ -1,5 +1,6 @@
 // Why a net file is refused.
-ghost use Rattle.std.specs.Prelude.{◌≡◌};
+ghost use Rattle.std.specs.Prelude.{◌≡◌, Some};
+ghost use Rattle.netlayout.specs.Names.{fault_text};
 ghost use Rattle.netlayout.specs.Codes.{code_of};
 ghost use Rattle.netlayout.specs.declared.refusal.Refusal.TheVariants.{Count};
 
@@ -31,6 +32,8 @@ pub enum RecordFault {
 }
 
 impl fmt::Display for RecordFault {
+    ghost output = { λ fault. Some (fault_text fault) };
+
     fn fmt<W: fmt::Write>(&self, f: &mut fmt::Formatter<W>) -> fmt::Result {
         f.write_str(match self {
             RecordFault::StartMark => "its start mark is neither 0 nor 1",
@@ -45,7 +48,7 @@ impl fmt::Display for RecordFault {
 }
 
 // The rule that a file breaks; a number is that of the record or of the transition. A clash is one for a strict check only.
-#[derive(Clone, Copy)]
+#[derive(Clone, Copy, Debug, PartialEq, Eq)]
 pub enum Refusal {
     FileSize,
     Pair(Table, PairFault),

@@ -1,5 +1,6 @@
 // The three tables of a net file.
-ghost use Rattle.std.specs.Prelude.{◌≡◌};
+ghost use Rattle.std.specs.Prelude.{◌≡◌, Some};
+ghost use Rattle.netlayout.specs.Names.{table_name};
 ghost use Rattle.netlayout.specs.Tables.{table_number, record_size, pair_place};
 
 use std::fmt;
@@ -40,6 +41,8 @@ impl Table {
 }
 
 impl fmt::Display for Table {
+    ghost output = { λ table. Some (table_name table) };
+
     fn fmt<W: fmt::Write>(&self, f: &mut fmt::Formatter<W>) -> fmt::Result {
         f.write_str(match self {
             Table::Places => "places table",

@@ -1,6 +1,7 @@
 pub mod FixedVecs
 pub mod Ranges
 pub mod Kinds
+pub mod Names
 pub mod Nets
 pub mod Stored
 pub mod WellFormed

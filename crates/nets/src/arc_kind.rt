@@ -1,7 +1,11 @@
 // What an arc does between its transition and its place.
+ghost use Rattle.std.specs.Prelude.{◌++◌, Some, codes, decimal};
 ghost use Rattle.nets.specs.Kinds.{Decodes};
 
-#[derive(Clone, Copy)]
+use std::error::Error;
+use std::fmt;
+
+#[derive(Clone, Copy, Debug, PartialEq, Eq)]
 pub enum ArcKind {
     Consumes,
     Produces,
@@ -10,8 +14,19 @@ pub enum ArcKind {
 }
 
 // A number that is no kind's.
-#[derive(Clone, Copy)]
+#[derive(Clone, Copy, Debug, PartialEq, Eq)]
 pub struct UnknownKind(pub u8);
+
+impl fmt::Display for UnknownKind {
+    ghost output = { λ e. Some (codes "no kind of arc has number " ++ decimal e.0) };
+
+    fn fmt<W: fmt::Write>(&self, f: &mut fmt::Formatter<W>) -> fmt::Result {
+        let UnknownKind(number) = *self;
+        write!(f, "no kind of arc has number {number}")
+    }
+}
+
+impl Error for UnknownKind {}
 
 // The kind that a file writes as this number.
 impl TryFrom<u8> for ArcKind {

@@ -114,6 +114,7 @@ impl Net {
             return;
         }
         if let Some(held) = self.transition(transition) {
+            // A changed copy is put back: an element of an array that is lent by `&mut` gets no proof yet.
             let joined = held.with_arc(kind, place);
             self.transitions.set(transition, joined);
         }

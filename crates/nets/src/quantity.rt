@@ -1,5 +1,6 @@
 // What a net has a count of.
-ghost use Rattle.std.specs.Prelude.{◌≡◌};
+ghost use Rattle.std.specs.Prelude.{◌≡◌, Some};
+ghost use Rattle.nets.specs.Names.{quantity_name};
 ghost use Rattle.nets.specs.Ranges.{most as the_most, in_range};
 
 use std::fmt;
@@ -33,6 +34,8 @@ impl Quantity {
 }
 
 impl fmt::Display for Quantity {
+    ghost output = { λ q. Some (quantity_name q) };
+
     fn fmt<W: fmt::Write>(&self, f: &mut fmt::Formatter<W>) -> fmt::Result {
         f.write_str(match self {
             Quantity::Places => "places",

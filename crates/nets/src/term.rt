@@ -4,7 +4,7 @@ use crate::fixed_vec::{Blank, FixedVec};
 // The terms of a condition, at most four, in file order.
 pub type Terms = FixedVec<Term, 4>;
 
-#[derive(Clone, Copy)]
+#[derive(Clone, Copy, Debug, PartialEq, Eq)]
 pub struct Term {
     pub high: u32,
     pub low: u32,

@@ -42,7 +42,7 @@ impl Transition {
         moved.union(seen).has(place)
     }
 
-    // The transition with one arc more, to `place`.
+    // The transition with one arc more, to `place`; an arm for each kind, as a map from kinds to sets would name none of them.
     pub(crate) fn with_arc(self, kind: ArcKind, place: usize) -> Transition
         ensures { result ≡ with_arc self kind place }
     {

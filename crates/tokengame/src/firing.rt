@@ -1,4 +1,4 @@
-// When a transition can fire, and what firing it does.
+// When a transition can fire, and what firing it does. Functions and no methods: `Transition` is another crate's.
 ghost use Rattle.std.specs.Prelude.{◌≡◌};
 ghost use Rattle.nets.specs.Firing.{term_holds, condition, needs as needed_places, forbids as forbidden_places, enabled, hindering as hindering_places, can_fire, fire as fired_marking};
 

@@ -1,4 +1,4 @@
-// A marking and a line word: what says which transitions can fire.
+// A marking and a line word: what says which transitions can fire. Open calls take them apart: a caller has them from different hands.
 ghost use Rattle.std.specs.Prelude.{◌≡◌, ◌<◌, length};
 ghost use Rattle.bitset.specs.Sets.{within, below};
 ghost use Rattle.nets.specs.Firing.{can_fire as fires};

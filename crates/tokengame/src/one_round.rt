@@ -33,7 +33,7 @@ fn fire_all(net: &Net, fired: TransitionSet, marking: PlaceSet) -> PlaceSet
 }
 
 // What a round reports, and the marking where it ends.
-#[derive(Clone, Copy)]
+#[derive(Clone, Copy, Debug, PartialEq, Eq)]
 pub struct Outcome {
     pub report: TransitionSet,
     pub marking: PlaceSet,
