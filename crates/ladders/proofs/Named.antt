@@ -32,5 +32,5 @@ named_below p i (s ∷ ss) e (suc k) d h =
     let w = went_on (next_at i p s) i (λ q. from q (i + 1) ss) e in
     named_below w.0 (i + 1) ss w.1.1 k d (le_of_suc-le-suc h)
 
-pub named_within : (ss : List Step) (k : ℕ) (d : Step) → grammar ss ≡ Ok tt → k < length ss → (get_or ss k d).coil < 193
-named_within ss k d whole h = named_below First 0 ss whole k d h
+pub named_within : (ss : List Step) (n k : ℕ) (d : Step) → grammar ss ≡ Ok tt → n ≡ 193 → k < length ss → (get_or ss k d).coil < n
+named_within ss n k d whole count h = let b = named_below First 0 ss whole k d h in omega arith

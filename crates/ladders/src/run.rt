@@ -1,9 +1,8 @@
 // The run of steps over coils of any kind of level.
-ghost use Rattle.std.specs.Prelude.{◌≡◌, ◌<◌, Ok};
+ghost use Rattle.std.specs.Prelude.{◌≡◌, ◌<◌, length, Ok};
 ghost use Rattle.ladders.specs.Flows.{stored, flow_past, written, ran};
 ghost use Rattle.ladders.specs.Grammar.{grammar};
 
-use crate::coil::COILS;
 use crate::flow::Flow;
 use crate::step::{Op, Step};
 use levels::Level;
@@ -22,12 +21,8 @@ fn stored_level<L: Level>(op: Op, outcome: L, x: L) -> Option<L>
 }
 
 // One step: the flow after it, and what it stores.
-pub(crate) fn take_step<L: Level>(
-    flow: Flow<L>,
-    step: Step,
-    coils: &mut [L; COILS as usize],
-) -> Flow<L>
-    requires { step.coil < COILS }
+pub(crate) fn take_step<L: Level>(flow: Flow<L>, step: Step, coils: &mut [L]) -> Flow<L>
+    requires { step.coil < length coils.old }
     ensures flow { result ≡ flow_past L.operations step coils.old flow }
     ensures coils { coils.new ≡ written L.operations step coils.old flow }
 {
@@ -39,9 +34,10 @@ pub(crate) fn take_step<L: Level>(
     flow.after(step.op, x)
 }
 
-// Every step of a ladder in turn.
-pub(crate) fn run_steps<L: Level>(steps: &[Step], coils: &mut [L; COILS as usize])
-    requires { grammar steps.now ≡ Ok tt }
+// Every step of a ladder in turn, over 193 coils: a slice, as a caller lends any list of coils.
+pub(crate) fn run_steps<L: Level>(steps: &[Step], coils: &mut [L])
+    requires whole { grammar steps.now ≡ Ok tt }
+    requires count { length coils.old ≡ 193 }
     ensures { coils.new ≡ ran L.operations steps.now coils.old }
 {
     // No `fold`: its closure would write the coils, and the proof then knows nothing of what it did to them.

@@ -56,15 +56,15 @@ fn table_part<'a>(file: &'a [u8], table: Table, earliest: usize) -> Result<Part<
     let start = half_at(file, place);
     let length = half_at(file, place + 2);
     let end = start + length;
-    if start < earliest {
+    let Some(_) = start.checked_sub(earliest) else {
         return Err(Refusal::Pair(table, PairFault::StartsEarly));
-    }
+    };
     let Some(bytes) = file.get(start..end) else {
         return Err(Refusal::Pair(table, PairFault::PassesEnd));
     };
-    if !length.is_multiple_of(table.record_size()) {
+    let 0 = length % table.record_size() else {
         return Err(Refusal::Pair(table, PairFault::BrokenRecord));
-    }
+    };
     Ok(Part { bytes, end })
 }
 
