@@ -1,4 +1,3 @@
-pub mod Coils
 pub mod Judged
 pub mod Named
 pub mod Parsed

@@ -1,5 +1,5 @@
 -- When a transition can fire, what firing it does, and which transitions conflict. A marking is the set of the marked places, a line word that of the lines that are high.
-use Rattle.std.specs.Prelude.{◌≡◌, ℕ, Bool, true, false, not, ◌&&◌, ◌||◌, ◌↔◌, List, [], ◌∷◌, bit_and, bit_or}
+use Rattle.std.specs.Prelude.{◌≡◌, ℕ, Bool, true, false, not, ◌&&◌, ◌||◌, ◌↔◌, List, bit_and, bit_or}
 use Rattle.std.specs.List.{list_any}
 use Rattle.bitset.specs.Sets.{within, apart, without}
 use Rattle.nets.specs.declared.term.Term.{Term}

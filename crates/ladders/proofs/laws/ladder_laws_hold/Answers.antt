@@ -1,10 +1,6 @@
-use Rattle.ladders.proofs.Coils.{coil_names}
 use Rattle.ladders.proofs.Judged.{grammar_tells}
 use Rattle.ladders.proofs.RungRuns.{rungs_in_turn}
 use Rattle.ladders.proofs.laws.ladder_laws_hold.Goals as goal
-
-pub returns-clause-coils : goal.returns-clause-coils
-returns-clause-coils g c = coil_names
 
 pub returns-clause-grammar : goal.returns-clause-grammar
 returns-clause-grammar g c = grammar_tells

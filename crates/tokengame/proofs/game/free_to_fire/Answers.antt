@@ -1,7 +1,7 @@
-use Rattle.std.proofs.Common.{ℕ, not, eqb, sym, ap, ◌∙◌, true≢false, arith}
+use Rattle.std.proofs.Common.{ℕ, not, eqb, sym, ap, ◌∙◌, true≢false}
 use Rattle.bitset.specs.Room.{lowest_in}
 use Rattle.nets.specs.Firing.{condition, hindering}
-use Rattle.tokengame.proofs.Games.{unknown_place, unknown_transition, not_enabled, condition_told, game_laws, listed, stopped}
+use Rattle.tokengame.proofs.Games.{unknown_place, not_enabled, condition_told, game_laws, listed, stopped}
 use Rattle.tokengame.proofs.game.free_to_fire.Goals as goal
 
 pub returns-then-not-has_places : goal.returns-then-not-has_places
@@ -10,14 +10,6 @@ returns-then-not-has_places c =
     let e = sym c.if-not-has_places.ensures in
     let first = sym (unknown_place n _ _ _ e) in
     let laws = game_laws n _ _ _ (λ f l. absurd (true≢false (sym f ∙ e))) in
-    record { refused = first; accepted = stopped _ _ first ∙ laws.granted; granted = tt; laws = laws }
-
-pub returns-in_default : goal.returns-in_default
-returns-in_default c =
-    let n = c.args.net.now in
-    let e = sym c.if-not-has_places.ensures in
-    let laws = game_laws n c.args.now.marking c.args.now.lines c.args.number (λ f l. absurd (omega (arith, c.in_default.ensures))) in
-    let first = sym (unknown_transition n _ _ _ e c.in_default.ensures) in
     record { refused = first; accepted = stopped _ _ first ∙ laws.granted; granted = tt; laws = laws }
 
 pub returns-in-Some-lowest : goal.returns-in-Some-lowest

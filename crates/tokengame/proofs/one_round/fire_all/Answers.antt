@@ -1,9 +1,6 @@
-use Rattle.std.proofs.Common.{◌≡◌, length, get_or, refl, ap, ◌∙◌, ap₂, arith}
+use Rattle.std.proofs.Common.{◌≡◌, length, get_or, refl, ap, ◌∙◌, arith}
 use Rattle.std.proofs.lemmas.List.{get_or_read_under}
-use lib.Bits.{bit_or}
-use Rattle.bitset.specs.Sets.{without}
 use Rattle.nets.specs.Nets.{unconnected, at}
-use Rattle.nets.specs.Rounds.{consumed, produced}
 use Rattle.tokengame.proofs.Unions.{union_more, union_same}
 use Rattle.tokengame.proofs.one_round.fire_all.Goals as goal
 use Rattle.tokengame.proofs.one_round.fire_all.Goals.{then-has, else-has}
@@ -29,13 +26,3 @@ loop-number-preserved c =
         w.produced-is ∙ union_same (λ t. (at n t).produces) r k _ c.loop-number.invariant.1 w.if-has.ensures,
       )
     ]
-
-pub returns : goal.returns
-returns c =
-    let n = c.args.net.now in
-    let r = c.args.fired in
-    let long = ap length c.transitions-transition-items.ensures.items in
-    let all : c.loop-number.number ≡ length n.transitions = omega (arith, c.loop-number-test.false, c.loop-number.auto.number-end) in
-    c.union.ensures ∙ ap₂ bit_or
-    (c.without.ensures ∙ ap (without c.args.marking) (c.loop-number.invariant.0 ∙ ap (consumed n r) all))
-    (c.loop-number.invariant.1 ∙ ap (produced n r) all)

@@ -1,13 +1,7 @@
-use Rattle.std.proofs.Common.{◌≡◌, ℕ, List, get_or, ap, ◌∙◌, arith}
+use Rattle.std.proofs.Common.{◌≡◌, get_or, ap, ◌∙◌, arith}
 use Rattle.nets.specs.Rounds.{union}
-use Rattle.tokengame.proofs.Unions.{union_next, raised}
+use Rattle.tokengame.proofs.Unions.{raised}
 use Rattle.tokengame.proofs.raised_outputs.outputs.Goals as goal
-
-pub loop-place-preserved : goal.loop-place-preserved
-loop-place-preserved c =
-    let n = c.args.net.now in
-    union_next (λ p. get_or n.raises p 0) c.args.marking c.loop-place.place c.loop-place.raised c.loop-place.invariant _ _
-    (ap (λ (l : List ℕ). get_or l c.loop-place.place 0) c.raises-word-items.ensures.words) c.raise-raised.ensures
 
 pub returns : goal.returns
 returns c =
