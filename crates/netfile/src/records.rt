@@ -23,7 +23,7 @@ pub(crate) trait Record<const N: usize>: Copy {
     fn from_bytes(bytes: [u8; N]) -> Self
         ensures { result ≡ said bytes.entry };
 
-    // Puts it into the net as record `index`, or says which rule it breaks.
+    // Puts it into the net as record `index`, which its bytes do not tell, or says which rule it breaks.
     fn put(self, net: &mut Net, index: usize) -> Result<(), Refusal>
         ensures refused { result_err result ≡ first_of (wrong net.old self index) }
         ensures granted { OnOk result (net.new ≡ put_in net.old self index) };

@@ -1,4 +1,4 @@
-// A marking and a line word: what says which transitions can fire. Open calls take them apart: a caller has them from different hands.
+// A marking and a line word: what says which transitions can fire. Open calls take these and the net apart: a caller has them from different hands.
 ghost use Rattle.std.specs.Prelude.{◌≡◌, ◌<◌, length};
 ghost use Rattle.bitset.specs.Sets.{within, below};
 ghost use Rattle.nets.specs.Firing.{can_fire as fires};
@@ -32,7 +32,7 @@ impl Moment {
         PlaceSet::below(net.counts().places).includes(self.marking)
     }
 
-    // The transitions that are taken after transition `number`, if `taken` are those below it.
+    // The transitions that are taken after this one, told with its number as `enumerate` tells both, if `taken` are those below it.
     fn take_next(
         &self,
         net: &Net,
