@@ -11,7 +11,7 @@ pub trait Word: Copy {
     // The word as a number.
     ghost number: { Self → ℕ };
 
-    // The word in 64 bits, which hold every kind of word.
+    // The word in 64 bits, which hold every kind of word; no `Into<u64>`, whose clause tells a relation and no number.
     fn wide(self) -> u64
         ensures { result ≡ number self };
 

@@ -72,7 +72,7 @@ impl TryFrom<u16> for Coil {
     }
 }
 
-// The number of a coil.
+// The number of a coil; an arm for each kind, as for the way back.
 impl TryFrom<Coil> for u16 {
     type Error = NoSuchCoil;
 

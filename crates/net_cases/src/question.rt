@@ -83,7 +83,7 @@ fn net_in(file: &[u8]) -> Result<Net, WrongParagraph> {
 }
 
 impl Question {
-    // The answer of the call that tells it.
+    // The answer of the call that tells it; a `match`, since each question asks a call of another form.
     pub fn answer(self, file: &[u8]) -> Result<Answer, WrongParagraph> {
         match self {
             Question::Check(strictness) => Ok(Answer::from(&netfile::check(file, strictness))),

@@ -29,18 +29,10 @@ impl Counts {
         ensures refused { result_err result ≡ first_of (out_of_range places transitions lines outputs) }
         ensures granted { IfOk result (λ c. (c.places ≡ places) × (c.transitions ≡ transitions) × (c.lines ≡ lines) × (c.outputs ≡ outputs)) }
     {
-        if !Quantity::Places.admits(places) {
-            return Err(Quantity::Places);
-        }
-        if !Quantity::Transitions.admits(transitions) {
-            return Err(Quantity::Transitions);
-        }
-        if !Quantity::Lines.admits(lines) {
-            return Err(Quantity::Lines);
-        }
-        if !Quantity::Outputs.admits(outputs) {
-            return Err(Quantity::Outputs);
-        }
+        Quantity::Places.check(places)?;
+        Quantity::Transitions.check(transitions)?;
+        Quantity::Lines.check(lines)?;
+        Quantity::Outputs.check(outputs)?;
         Ok(Counts {
             places,
             transitions,

@@ -28,7 +28,7 @@ pub struct FixedVec<T: Blank, const N: usize> {
     count: usize,
 }
 
-// Clauses see the list.
+// Clauses see the list; that it has at most `N` items is said by each call that reads it, since no clause sees the array.
 impl<T: Blank, const N: usize> Model for FixedVec<T, N> {
     ghost use Rattle.std.specs.Prelude.{List, length, take};
     ghost use Rattle.std.proofs.Common.{sym, ap₂};
@@ -45,7 +45,7 @@ impl<T: Blank, const N: usize> Model for FixedVec<T, N> {
     ghost inverse_ok = { λ v h. ap₂ (λ xs n. record { items = xs; count = n }) (sym h.past_end) (as_long v.items v.count h) };
 }
 
-// A derived clone would clone each item, of which the bound says only that it may be copied.
+// No derived clone: it would clone each item, of which the bound says only that it may be copied, and its proof stayed open.
 impl<T: Blank, const N: usize> Clone for FixedVec<T, N> {
     ghost is_clone = { λ v w. w ≡ v };
 

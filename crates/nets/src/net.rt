@@ -93,6 +93,8 @@ impl Net {
         self.transitions().get(number)
     }
 
+    // Filling a net refuses nothing, and answers nothing: the rules of a file are tested before.
+
     // Says what `place` raises and whether it starts marked; nothing changes where the net lacks the place.
     pub fn set_place(&mut self, place: usize, starts: bool, raise: u32)
         ensures { self.new ≡ with_place_record self.old place starts raise }
@@ -125,6 +127,7 @@ impl Net {
         ensures { self.new ≡ net_with_term self.old transition term }
     {
         if let Some(held) = self.transition(transition) {
+            // A changed copy is put back, as of an arc.
             let given = held.with_term(term);
             self.transitions.set(transition, given);
         }

@@ -1,7 +1,9 @@
 // What a net has a count of.
-ghost use Rattle.std.specs.Prelude.{◌≡◌, Some};
+ghost use Rattle.std.specs.Prelude.{◌≡◌, true, Some, OnOk};
 ghost use Rattle.nets.specs.Names.{quantity_name};
-ghost use Rattle.nets.specs.Ranges.{most as the_most, in_range};
+ghost use Rattle.nets.specs.Ranges.{most as the_most, in_range, unless_in_range};
+ghost use Rattle.bitset.specs.Lists.{first_of};
+ghost use Rattle.std.specs.Result.{result_err};
 
 use std::fmt;
 
@@ -30,6 +32,18 @@ impl Quantity {
         ensures { result ≡ in_range self count }
     {
         (1..=self.most()).contains(&count)
+    }
+
+    // An error with the quantity, where a net may not have so many of it.
+    pub(crate) fn check(self, count: usize) -> Result<(), Quantity>
+        ensures refused { result_err result ≡ first_of (unless_in_range self count) }
+        ensures kept { OnOk result (in_range self count ≡ true) }
+    {
+        if self.admits(count) {
+            Ok(())
+        } else {
+            Err(self)
+        }
     }
 }
 

@@ -1,4 +1,4 @@
-// What is in a net, in rows of three columns: subject, verb and object.
+// What is in a net, in rows of three columns: subject, verb and object. Rows are written by functions: a type for each would only hold what they take.
 use crate::nouns::{Being, Counted, Noun, Numbered};
 use nets::{Counts, Net, Term, Transition};
 use std::fmt;

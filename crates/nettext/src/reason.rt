@@ -93,14 +93,15 @@ const PLACES_LENGTH: &str = "The places table does not have 5 bytes for each pla
 // That no token is in the net to begin with.
 const NO_START_PLACE: &str = "No place is marked at the start.";
 
-// Writes which record of a table is wrong, and what is wrong with it.
-fn write_record<W: fmt::Write, D: fmt::Display + Drop>(
-    f: &mut fmt::Formatter<W>,
-    table: Table,
-    index: usize,
-    fault: D,
-) -> fmt::Result {
-    write!(f, "Record {index} of the {table} is wrong: {fault}.")
+// A record of a table by its number, and what is wrong with it.
+#[derive(Clone, Copy)]
+struct RecordText<D>(Table, usize, D);
+
+impl<D: fmt::Display> fmt::Display for RecordText<D> {
+    fn fmt<W: fmt::Write>(&self, f: &mut fmt::Formatter<W>) -> fmt::Result {
+        let RecordText(table, index, fault) = self;
+        write!(f, "Record {index} of the {table} is wrong: {fault}.")
+    }
 }
 
 // The sentence on a refusal of a file of so many bytes.
@@ -123,10 +124,10 @@ impl fmt::Display for Reason {
             Refusal::Pair(table, fault) => f.write(PairText(table, fault)),
             Refusal::Count(quantity) => f.write(QuantityText(quantity)),
             Refusal::PlacesLength => f.write_str(PLACES_LENGTH),
-            Refusal::Record(table, i, fault) => write_record(f, table, i, fault),
-            Refusal::RepeatedArc(i) => write_record(f, Table::Arcs, i, REPEATED_ARC),
-            Refusal::LineInBothWords(i) => write_record(f, Table::Terms, i, LINE_IN_BOTH_WORDS),
-            Refusal::FifthTerm(i) => write_record(f, Table::Terms, i, FIFTH_TERM),
+            Refusal::Record(table, i, fault) => f.write(RecordText(table, i, fault)),
+            Refusal::RepeatedArc(i) => f.write(RecordText(Table::Arcs, i, REPEATED_ARC)),
+            Refusal::LineInBothWords(i) => f.write(RecordText(Table::Terms, i, LINE_IN_BOTH_WORDS)),
+            Refusal::FifthTerm(i) => f.write(RecordText(Table::Terms, i, FIFTH_TERM)),
             Refusal::MovesNothing(t) => {
                 write!(f, "Transition {t} neither consumes nor produces a place.")
             }

@@ -1,4 +1,4 @@
-// Finding a clash: two conflicting transitions that can both fire at some marking under some line word.
+// Finding a clash: two conflicting transitions that can both fire at some marking under some line word. The two are parameters, as of a conflict.
 ghost use Rattle.std.specs.Prelude.{◌≡◌, length, min};
 ghost use Rattle.nets.specs.Clashes.{lines_of_both, lines_with, lines_for, clash_between, clash_with, first_clash as first_clash_of, Told};
 

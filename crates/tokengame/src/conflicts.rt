@@ -1,4 +1,4 @@
-// Which transitions stand in each other's way. Two parameters: a pair of one type would name neither.
+// Which transitions stand in each other's way. Two parameters: a struct of both would be made for one call and taken apart in it.
 ghost use Rattle.std.specs.Prelude.{◌≡◌};
 ghost use Rattle.nets.specs.Firing.{conflict as conflicting, ConflictsHinder};
 

@@ -1,4 +1,4 @@
-// When a transition can fire, and what firing it does. Functions and no methods: `Transition` is another crate's.
+// When a transition can fire, and what firing it does. Functions and no methods: those of another crate's type would need a trait of one `impl`.
 ghost use Rattle.std.specs.Prelude.{◌≡◌};
 ghost use Rattle.nets.specs.Firing.{term_holds, condition, needs as needed_places, forbids as forbidden_places, enabled, hindering as hindering_places, can_fire, fire as fired_marking};
 

@@ -1,4 +1,4 @@
-// The token game: one transition is fired at a marking, with no start rule.
+// The token game: one transition is fired at a marking, with no start rule. An open call takes net, marking and lines apart, as a caller has them.
 ghost use Rattle.std.specs.Prelude.{◌≡◌, is_ok, IfOk};
 ghost use Rattle.bitset.specs.Lists.{first_of};
 ghost use Rattle.nets.specs.Firing.{fire as fired_marking};

@@ -1,4 +1,4 @@
-// A round: which transitions fire together at a marking under a line word, and where that ends.
+// A round: which transitions fire together at a marking under a line word, and where that ends. Net, marking and lines are apart, as a caller has them.
 ghost use Rattle.std.specs.Prelude.{◌≡◌};
 ghost use Rattle.nets.specs.Rounds.{begins as beginning, fire_all as fired_together, report as report_of, ends, Round, LawsTellTheRound, RoundsKeepWeights, LinesIgnored};
 

@@ -1,4 +1,4 @@
-// The outputs of a marking.
+// The outputs of a marking. The net and the marking are parameters apart, since a caller has them from different hands.
 ghost use Rattle.std.specs.Prelude.{◌≡◌, if◌then◌else◌, bit_or};
 ghost use Rattle.bitset.specs.Sets.{has};
 ghost use Rattle.nets.specs.Rounds.{outputs_of, Raised};
