@@ -4,9 +4,7 @@ ghost use Rattle.bitset.specs.Sets.{has as has_member, within as is_within, apar
 
 pub trait Word: Copy {
     // How many numbers a word has room for.
-    const ROOM: usize;
-
-    ghost ROOM: { ℕ };
+    ghost room: { ℕ };
 
     // The word as a number.
     ghost number: { Self → ℕ };
@@ -17,7 +15,7 @@ pub trait Word: Copy {
 
     // The set of all numbers below `count` for which there is room.
     fn below(count: usize) -> Self
-        ensures { number result ≡ all_below (min count ROOM) };
+        ensures { number result ≡ all_below (min count room) };
 
     // Whether number `n` is in the word; none is for which there is no room.
     fn has(self, n: usize) -> bool
@@ -45,9 +43,7 @@ pub trait Word: Copy {
 
 // Words of 32 bits hold lines and outputs.
 impl Word for u32 {
-    const ROOM: usize = 32;
-
-    ghost ROOM = { 32 };
+    ghost room = { 32 };
 
     ghost number = { λ w. w };
 
@@ -62,9 +58,7 @@ impl Word for u32 {
 
 // Words of 64 bits hold places and transitions.
 impl Word for u64 {
-    const ROOM: usize = 64;
-
-    ghost ROOM = { 64 };
+    ghost room = { 64 };
 
     ghost number = { λ w. w };
 

@@ -17,7 +17,7 @@ use Rattle.nets.specs.declared.term.Term.{Term}
 use Rattle.nets.specs.declared.counts.Counts.{Counts}
 use Rattle.netfile.specs.Files.{place_record, arc_record, term_record, start_places, arc_of, arc_places, term_list, transition_said}
 use Rattle.netfile.specs.Rules.{arcs_broken, terms_broken}
-use Rattle.netfile.specs.Steps.{put_below, put_place, put_arc, put_term, with_arc_as, with_arc_put, with_term_put, with_place_put}
+use Rattle.netfile.specs.Steps.{put_below, put_place, put_arc, put_term, with_arc_as, arc_put, term_put, place_put}
 use Rattle.netfile.proofs.Counted.{counted_at, counted_all, counted_set}
 use Rattle.netfile.proofs.Kept.{ArcKept, TermKept, arcs_kept, terms_kept, joined_at, earlier_at}
 use Rattle.netfile.proofs.Lists.{both_empty}
@@ -59,7 +59,7 @@ module _ (c : Counts) (ps ars ts : List ℕ) where
 
   -- PLACES
 
-  place_step : (i : ℕ) → i < c.places → with_place_put (sketch i 0 0) i (place_record ps i) ≡ sketch (suc i) 0 0
+  place_step : (i : ℕ) → i < c.places → place_put (sketch i 0 0) (place_record ps i) i ≡ sketch (suc i) 0 0
   place_step i h =
       let small = c.places_in_range in
       cond-true (ltb i c.places) _ _ (lt-ltb i c.places h)
@@ -134,7 +134,7 @@ module _ (c : Counts) (ps ars ts : List ℕ) where
   kind_of (suc (suc (suc (suc n)))) h = absurd (omega arith)
 
   arc_step : (i j k : ℕ) (joined : Bool) → ArcKept c.places c.transitions joined (arc_record ars j)
-      → with_arc_put (sketch i j k) (arc_record ars j) ≡ sketch i (suc j) k
+      → arc_put (sketch i j k) (arc_record ars j) j ≡ sketch i (suc j) k
   arc_step i j k joined kept =
       let range = c.places_in_range in
       let kind = kind_of (arc_record ars j).kind kept.kind in
@@ -170,7 +170,7 @@ module _ (c : Counts) (ps ars ts : List ℕ) where
       ∙ sym (cond-true (eqb t t) _ _ (eq-eqb t t refl)))
 
   term_step : (i j k : ℕ) → TermKept c.transitions c.lines (earlier_at ts k) (term_record ts k)
-      → with_term_put (sketch i j k) (term_record ts k) ≡ sketch i j (suc k)
+      → term_put (sketch i j k) (term_record ts k) k ≡ sketch i j (suc k)
   term_step i j k kept =
       let t = (term_record ts k).transition in
       cond-true (ltb t (length (sketch i j k).transitions)) _ _ (within_sketch i j k t kept.transition)

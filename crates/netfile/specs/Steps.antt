@@ -12,39 +12,30 @@ use Rattle.netlayout.specs.declared.refusal.Refusal.{Refusal}
 use Rattle.netfile.specs.Files.{record_bytes, place_said, arc_said, term_said}
 use Rattle.netfile.specs.Rules.{each_below, place_broken, arc_broken, term_broken, net_broken}
 
--- the net with one place record more
-abbrev pub with_place_put : Net → ℕ → PlaceRecord → Net
-with_place_put n i p = with_place_record n i (p.mark == 1) p.raise
+-- the net with a place record more, as record i
+abbrev pub place_put : Net → PlaceRecord → ℕ → Net
+place_put n p i = with_place_record n i (p.mark == 1) p.raise
 
--- the net with one arc record more, if it is of a kind
+-- the net with an arc more between this transition and this place, if it is of a kind
 abbrev pub with_arc_as : Net → ArcRecord → Option ArcKind → Net
 with_arc_as n a None = n
 with_arc_as n a (Some kind) = net_with_arc n a.transition kind a.place
 
-abbrev pub with_arc_put : Net → ArcRecord → Net
-with_arc_put n a = with_arc_as n a (kind_numbered a.kind)
-
--- the net with one term record more
-abbrev pub with_term_put : Net → TermRecord → Net
-with_term_put n r = net_with_term n r.transition r.term
-
--- the same by the record and its index
-abbrev pub place_put : Net → PlaceRecord → ℕ → Net
-place_put n p i = with_place_put n i p
-
+-- the net with an arc record more
 abbrev pub arc_put : Net → ArcRecord → ℕ → Net
-arc_put n a i = with_arc_put n a
+arc_put n a i = with_arc_as n a (kind_numbered a.kind)
 
+-- the net with a term record more
 abbrev pub term_put : Net → TermRecord → ℕ → Net
-term_put n r i = with_term_put n r
+term_put n r i = net_with_term n r.transition r.term
 
 -- record i of a table put in, by what its bytes say
-abbrev pub putting : {R : Type 0} → (List ℕ → R) → (Net → R → ℕ → Net) → ℕ → List ℕ → Net → ℕ → Net
-putting said put size bs n i = put n (said (record_bytes size bs i)) i
+abbrev pub put_record : {R : Type 0} → (List ℕ → R) → (Net → R → ℕ → Net) → ℕ → List ℕ → Net → ℕ → Net
+put_record said put size bs n i = put n (said (record_bytes size bs i)) i
 
 -- what record i of a table breaks
-abbrev pub wronging : {R : Type 0} → (List ℕ → R) → (Net → R → ℕ → List Refusal) → ℕ → List ℕ → Net → ℕ → List Refusal
-wronging said wrong size bs n i = wrong n (said (record_bytes size bs i)) i
+abbrev pub record_wrong : {R : Type 0} → (List ℕ → R) → (Net → R → ℕ → List Refusal) → ℕ → List ℕ → Net → ℕ → List Refusal
+record_wrong said wrong size bs n i = wrong n (said (record_bytes size bs i)) i
 
 -- the net with what stands below k put in, one after the other
 abbrev pub put_below : (Net → ℕ → Net) → Net → ℕ → Net
@@ -67,21 +58,21 @@ term_wrong n r i = term_broken (length n.transitions) n.lines (length (at n r.tr
 
 -- the net with all records of a table put in
 abbrev pub with_records : {R : Type 0} → (List ℕ → R) → (Net → R → ℕ → Net) → ℕ → Net → List ℕ → Net
-with_records said put size n bs = put_below (putting said put size bs) n (length bs / size)
+with_records said put size n bs = put_below (put_record said put size bs) n (length bs / size)
 
 -- what the records of a table break
 abbrev pub records_wrong : {R : Type 0} → (List ℕ → R) → (Net → R → ℕ → Net) → (Net → R → ℕ → List Refusal) → ℕ → Net → List ℕ → List Refusal
-records_wrong said put wrong size n bs = wrong_below (putting said put size bs) (wronging said wrong size bs) n (length bs / size)
+records_wrong said put wrong size n bs = wrong_below (put_record said put size bs) (record_wrong said wrong size bs) n (length bs / size)
 
 -- record i of each table put in
 abbrev pub put_place : List ℕ → Net → ℕ → Net
-put_place bs = putting place_said place_put 5 bs
+put_place bs = put_record place_said place_put 5 bs
 
 abbrev pub put_arc : List ℕ → Net → ℕ → Net
-put_arc bs = putting arc_said arc_put 3 bs
+put_arc bs = put_record arc_said arc_put 3 bs
 
 abbrev pub put_term : List ℕ → Net → ℕ → Net
-put_term bs = putting term_said term_put 9 bs
+put_term bs = put_record term_said term_put 9 bs
 
 -- the net with the places, the arcs and the terms of a table put in
 abbrev pub with_places : Net → List ℕ → Net

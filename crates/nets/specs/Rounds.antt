@@ -12,13 +12,13 @@ abbrev pub begins : Net → ℕ → ℕ
 begins n m = cond (m == 0) n.start m
 
 -- some transition of r below k conflicts with this one
-abbrev pub hindered : Net → ℕ → Transition → ℕ → Bool
-hindered n r x zero = false
-hindered n r x (suc k) = (has r k && conflict (at n k) x) || hindered n r x k
+abbrev pub conflicts_below : Net → ℕ → Transition → ℕ → Bool
+conflicts_below n r x zero = false
+conflicts_below n r x (suc k) = (has r k && conflict (at n k) x) || conflicts_below n r x k
 
 -- some transition of r below k conflicts with transition t
 abbrev pub excluded : Net → ℕ → ℕ → ℕ → Bool
-excluded n r t k = hindered n r (at n t) k
+excluded n r t k = conflicts_below n r (at n t) k
 
 -- r are those taken below t: and t, if it can fire and conflicts with none of them
 abbrev pub take_next : Net → ℕ → ℕ → ℕ → ℕ → ℕ

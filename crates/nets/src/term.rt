@@ -1,4 +1,6 @@
 // A term of a condition: it holds when each line of `high` is high and each line of `low` is low.
+ghost use Rattle.nets.specs.WellFormed.{always};
+
 use crate::fixed_vec::{Blank, FixedVec};
 
 // The terms of a condition, at most four, in file order.
@@ -12,7 +14,7 @@ pub struct Term {
 
 // A term that always holds.
 impl Blank for Term {
-    ghost blank = { record { high = 0; low = 0 } };
+    ghost blank = { always };
 
     fn blank() -> Term {
         Term { high: 0, low: 0 }

@@ -1,6 +1,7 @@
 // A transition: the places that its arcs join it to, by kind, and the terms of its condition.
-ghost use Rattle.std.specs.Prelude.{◌≡◌, []};
+ghost use Rattle.std.specs.Prelude.{◌≡◌};
 ghost use Rattle.bitset.specs.Sets.{has};
+ghost use Rattle.nets.specs.Nets.{unconnected};
 ghost use Rattle.nets.specs.Stored.{with_arc, given_term, joined_places};
 
 use crate::arc_kind::ArcKind;
@@ -19,7 +20,7 @@ pub struct Transition {
 
 // A transition with no arc and no term.
 impl Blank for Transition {
-    ghost blank = { record { consumes = 0; produces = 0; tests = 0; inhibits = 0; terms = [] } };
+    ghost blank = { unconnected };
 
     fn blank() -> Transition {
         Transition {

@@ -4,7 +4,7 @@ use Rattle.std.specs.Option.{MatchOption}
 use Rattle.nets.specs.Clashes.{or_else, first_below, first_over}
 use Rattle.nets.specs.Firing.{conflict}
 use Rattle.nets.specs.Nets.{Net, at}
-use Rattle.nets.specs.Rounds.{hindered}
+use Rattle.nets.specs.Rounds.{conflicts_below}
 use Rattle.nets.specs.declared.transition.Transition.{Transition}
 use Rattle.bitset.specs.Sets.{has}
 use Rattle.std.specs.Bool.{MatchBool}
@@ -54,17 +54,17 @@ module _ (n : Net) (r : ℕ) (x : Transition) where
   abbrev conflicts : ℕ → Bool
   conflicts i = has r i && conflict (at n i) x
 
-  some_conflicts : (k i : ℕ) → i < k → conflicts i ≡ true → hindered n r x k ≡ true
+  some_conflicts : (k i : ℕ) → i < k → conflicts i ≡ true → conflicts_below n r x k ≡ true
   some_conflicts zero i l e = absurd (omega arith)
   some_conflicts (suc k) i l e = ⊎_elim
-      (λ j. or_right (conflicts k) (hindered n r x k) (some_conflicts k i j e))
-      (λ j. let s : i ≡ k = omega arith in or_left (conflicts k) (hindered n r x k) (ap conflicts (sym s) ∙ e))
+      (λ j. or_right (conflicts k) (conflicts_below n r x k) (some_conflicts k i j e))
+      (λ j. let s : i ≡ k = omega arith in or_left (conflicts k) (conflicts_below n r x k) (ap conflicts (sym s) ∙ e))
       (cases_lt i k)
 
-  none_conflicts : (k : ℕ) → ((i : ℕ) → i < k → conflicts i ≡ false) → hindered n r x k ≡ false
+  none_conflicts : (k : ℕ) → ((i : ℕ) → i < k → conflicts i ≡ false) → conflicts_below n r x k ≡ false
   none_conflicts zero h = refl
-  none_conflicts (suc k) h = or_from (conflicts k) (hindered n r x k) (h k (omega arith)) (none_conflicts k (λ i l. h i (omega arith)))
+  none_conflicts (suc k) h = or_from (conflicts k) (conflicts_below n r x k) (h k (omega arith)) (none_conflicts k (λ i l. h i (omega arith)))
 
-  pub hindered_is : (k : ℕ) (b : Bool) → MatchBool b ((i : ℕ) × (i < k) × (conflicts i ≡ true)) ((i : ℕ) → i < k → conflicts i ≡ false) → b ≡ hindered n r x k
-  hindered_is k true h = sym (some_conflicts k h.0 h.1 h.2)
-  hindered_is k false h = sym (none_conflicts k h)
+  pub conflicts_below_is : (k : ℕ) (b : Bool) → MatchBool b ((i : ℕ) × (i < k) × (conflicts i ≡ true)) ((i : ℕ) → i < k → conflicts i ≡ false) → b ≡ conflicts_below n r x k
+  conflicts_below_is k true h = sym (some_conflicts k h.0 h.1 h.2)
+  conflicts_below_is k false h = sym (none_conflicts k h)

@@ -3,7 +3,7 @@ ghost use Rattle.std.specs.Prelude.{◌≡◌, ◌<◌, length};
 ghost use Rattle.bitset.specs.Sets.{within, below};
 ghost use Rattle.nets.specs.Firing.{can_fire as fires};
 ghost use Rattle.nets.specs.Nets.{at};
-ghost use Rattle.nets.specs.Rounds.{hindered as is_hindered, take_next, taken as taken_below};
+ghost use Rattle.nets.specs.Rounds.{conflicts_below, take_next, taken as taken_below};
 
 use crate::conflicts::conflict;
 use crate::firing::can_fire;
@@ -17,8 +17,8 @@ pub(crate) struct Moment {
 }
 
 // Whether one of the transitions taken below `number` conflicts with `transition`.
-fn hindered(net: &Net, taken: TransitionSet, number: usize, transition: &Transition) -> bool
-    ensures { number < length net.now.transitions → result ≡ is_hindered net.now taken transition.now number }
+fn excluded(net: &Net, taken: TransitionSet, number: usize, transition: &Transition) -> bool
+    ensures { number < length net.now.transitions → result ≡ conflicts_below net.now taken transition.now number }
 {
     let mut lower = net.transitions().iter().take(number).enumerate();
     lower.any(|(other, held)| taken.has(other) && conflict(held, transition))
@@ -46,7 +46,7 @@ impl Moment {
         ensures { result ≡ take_next net.now self.now.marking self.now.lines number taken }
     {
         if can_fire(transition, self.marking, self.lines)
-            && !hindered(net, taken, number, transition)
+            && !excluded(net, taken, number, transition)
         {
             taken.with(number)
         } else {
