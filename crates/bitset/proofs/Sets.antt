@@ -1,11 +1,11 @@
 -- Words as sets: what is in each, and that a word is known by what is in it.
 use Rattle.std.proofs.Common.{◌≡◌, ℕ, zero, suc, ◌+◌, ◌-◌, ◌/◌, ◌%◌, ◌^◌, ◌<◌, ◌≤◌, min, Bool, true, false, cond, not, ◌&&◌, ◌||◌, eqb, ltb, List, [], ◌∷◌, ◌++◌, length, Some, None, sym, refl, ap, ◌∙◌, subst, ap₂, ⊎_elim, pow-suc, arith, length-append}
 use lib.Bits.{bit_and, bit_or, and_step, and_le_l, and_comm}
-use lib.Count.{count_trailing_zeros, ones, ones_step}
-use mir.Syntax.{w64}
+use lib.Count.{count_trailing_zeros, under, ones, ones_step}
+use lib.Dec.{leb-suc-suc}
 use Rattle.std.specs.Int.{bit_at}
-use Rattle.std.proofs.lemmas.Nat.Bits.{bit_at_lowest, bit_at-suc, bit_at-zero, bit_at_and, bit_at_or, bit_at-pow_same, bit_at-pow_other, bit_at_ones, bit_at_ones_above, bit_at_not, bit_at-trailing_zeros, bit_at-lt, bit_at_above, same_from_bits}
-use Rattle.std.proofs.lemmas.Bool.{eq-eqb, eqb-true, lt-ltb, cases_lt, cases_eq}
+use Rattle.std.proofs.lemmas.Nat.Bits.{bit_at_lowest, bit_at-suc, bit_at-zero, bit_at_and, bit_at_or, bit_at-pow_same, bit_at-pow_other, bit_at_ones, bit_at_ones_above, bit_at-lt, bit_at_above, same_from_bits}
+use Rattle.std.proofs.lemmas.Bool.{eq-eqb, eqb-true, lt-ltb, le-ltb, cases_lt, cases_eq}
 use Rattle.std.proofs.lemmas.Bool.Decides.{nat_tests}
 use Rattle.bitset.specs.Lists.{first_of}
 use Rattle.bitset.proofs.Lists.{first_joined}
@@ -160,26 +160,47 @@ has-below k n = ⊎_elim
     (λ l. let b = bit_at_ones_above k n l in grind (arith, nat_tests))
     (cases_lt n k)
 
--- what `!a` holds at a width of 64 bits
-has_complement : (a n : ℕ) → a < 2 ^ 64 → n < 64 → has (2 ^ 64 - 1 - a) n ≡ not (has a n)
-unfolding has
-has_complement a n h l = let b = bit_at_not w64 a n h l in let m = bit_at-lt a n in grind (arith, nat_tests)
+-- what `!a` holds, at any width
+pub has_complement : (k a n : ℕ) → a < 2 ^ k → has (2 ^ k - 1 - a) n ≡ (ltb n k && not (has a n))
+has_complement zero a n h = let e : 2 ^ 0 - 1 - a ≡ 0 = omega arith in ap (λ (x : ℕ). has x n) e ∙ has_none n ∙ ap (λ b. b && not (has a n)) (sym (le-ltb n 0 (omega arith)))
+has_complement (suc k) a zero h =
+    let p = pow-suc 2 k in
+    let e : (2 ^ suc k - 1 - a) % 2 ≡ 1 - a % 2 = omega arith in
+    let f = has_first (2 ^ suc k - 1 - a) in
+    let g = has_first a in
+    let l = lt-ltb 0 (suc k) (omega arith) in
+    grind (arith, nat_tests)
+has_complement (suc k) a (suc n) h =
+    let p = pow-suc 2 k in
+    let e : (2 ^ suc k - 1 - a) / 2 ≡ 2 ^ k - 1 - a / 2 = omega arith in
+    has_next (2 ^ suc k - 1 - a) n ∙ ap (λ (x : ℕ). has x n) e ∙ has_complement k (a / 2) n (omega arith)
+    ∙ ap₂ (λ b c. b && not c) (sym (leb-suc-suc (suc n) k)) (sym (has_next a n))
 
 -- `m & !a`
-pub and_complement : (m a : ℕ) → m < 2 ^ 64 → a < 2 ^ 64 → bit_and m (2 ^ 64 - 1 - a) ≡ without m a
-and_complement m a h l = same_word (bit_and m (2 ^ 64 - 1 - a)) (without m a) (λ n.
-    has_and m (2 ^ 64 - 1 - a) n ∙ ⊎_elim
-    (λ j. ap (λ b. has m n && b) (has_complement a n l j))
-    (λ j. let e = has_past m 64 n h j in grind arith) (cases_lt n 64)
+pub and_complement : (k m a : ℕ) → m < 2 ^ k → a < 2 ^ k → bit_and m (2 ^ k - 1 - a) ≡ without m a
+and_complement k m a h l = same_word (bit_and m (2 ^ k - 1 - a)) (without m a) (λ n.
+    has_and m (2 ^ k - 1 - a) n ∙ ap (λ b. has m n && b) (has_complement k a n l) ∙ ⊎_elim
+    (λ j. ap (λ b. has m n && (b && not (has a n))) (lt-ltb n k j))
+    (λ j. let e = has_past m k n h j in grind arith) (cases_lt n k)
     ∙ sym (has-without m a n))
 
 -- `trailing_zeros` names the least member
-pub trailing_least : (w : ℕ) → 0 < w → w < 2 ^ 64
-    → (count_trailing_zeros 64 w < 64) × (has w (count_trailing_zeros 64 w) ≡ true) × ((x : ℕ) → x < count_trailing_zeros 64 w → has w x ≡ false)
-unfolding has
-trailing_least w h l =
-    let t = bit_at-trailing_zeros w64 w h l in
-    (t.0, ap (λ (x : ℕ). eqb x 1) t.1, λ x m. ap (λ (x : ℕ). eqb x 1) (t.2 x m))
+pub trailing_least : (k w : ℕ) → ((x : ℕ) → x < count_trailing_zeros k w → has w x ≡ false) × (count_trailing_zeros k w < k → has w (count_trailing_zeros k w) ≡ true)
+unfolding count_trailing_zeros
+trailing_least zero w = (λ x h. absurd (omega arith), λ h. absurd (omega arith))
+trailing_least (suc k) w = go (w % 2) refl (trailing_least k (w / 2))
+  where
+    go : (d : ℕ) → w % 2 ≡ d → ((x : ℕ) → x < count_trailing_zeros k (w / 2) → has (w / 2) x ≡ false) × (count_trailing_zeros k (w / 2) < k → has (w / 2) (count_trailing_zeros k (w / 2)) ≡ true)
+        → ((x : ℕ) → x < under d (count_trailing_zeros k (w / 2)) → has w x ≡ false) × (under d (count_trailing_zeros k (w / 2)) < suc k → has w (under d (count_trailing_zeros k (w / 2))) ≡ true)
+    go zero e ih = (below, λ h. has_next w (count_trailing_zeros k (w / 2)) ∙ ih.1 (omega arith))
+      where
+        below : (x : ℕ) → x < suc (count_trailing_zeros k (w / 2)) → has w x ≡ false
+        below zero h = has_first w ∙ ap (λ (y : ℕ). eqb y 1) e
+        below (suc x) h = has_next w x ∙ ih.0 x (omega arith)
+    go (suc d) e ih = (λ x h. absurd (omega arith), λ h. has_first w ∙ eq-eqb (w % 2) 1 (omega arith))
+
+pub trailing_below : (k w : ℕ) → w < 2 ^ k → (w ≡ 0 → ⊥) → count_trailing_zeros k w < k
+trailing_below k w h ne = ⊎_elim (λ l. l) (λ l. absurd (ne (empty w (λ n. ⊎_elim (λ j. (trailing_least k w).0 n (omega arith)) (λ j. has_past w k n h j) (cases_lt n k))))) (cases_lt (count_trailing_zeros k w) k)
 
 -- one more place, above or below
 length_more : (w k : ℕ) → length (members w (suc k)) ≡ length (members w k) + tell (has w k)

@@ -1,9 +1,15 @@
 -- Three-valued levels.
 use Rattle.std.proofs.Common.{rules}
-use Rattle.std.specs.Prelude.{Bool, true, false}
+use Rattle.std.specs.Prelude.{ℕ, Bool, true, false}
 use Rattle.levels.specs.Levels.{Operations, LevelLaws, same}
 use Rattle.levels.specs.declared.ternary.Ternary.{Ternary}
 use Rattle.levels.specs.declared.ternary.Ternary.TheVariants.{Low, High, Unknown}
+
+-- a level's place in the order from low to high
+abbrev pub rank : Ternary → ℕ
+rank Low = 0
+rank Unknown = 1
+rank High = 2
 
 -- low and high admit themselves alone, and unknown admits both
 abbrev pub ternary_admits : Ternary → Bool → Bool

@@ -1,15 +1,58 @@
 // Three-valued levels: low, high, or unknown, which may be either.
-ghost use Rattle.levels.specs.Ternaries.{ternary_admits, ternary_operations, ternary_laws};
+ghost use Rattle.std.proofs.Common.{rules};
+ghost use Rattle.std.specs.Prelude.{◌≡◌};
+ghost use Rattle.std.specs.Cmp.{partial_order_from_own_ties};
+ghost use Rattle.std.specs.Cmp.Rules.{comparing};
+ghost use Rattle.std.specs.Ordering.{nat_cmp, on, as_partial_cmp};
+ghost use Rattle.levels.specs.Ternaries.{rank, ternary_admits, ternary_operations, ternary_laws};
 
 use crate::level::Level;
+use std::cmp::Ordering;
 
 // An enum of its own: `?`, `zip` and the like on an `Option<bool>` would make unknown of low and unknown, which is low.
-// From low to high, with unknown between them.
-#[derive(Clone, Copy, Debug, PartialEq, Eq, PartialOrd, Ord)]
+#[derive(Clone, Copy, Debug, PartialEq, Eq)]
 pub enum Ternary {
     Low,
-    Unknown,
     High,
+    Unknown,
+}
+
+impl Ternary {
+    // Its place in the order, in which unknown stands between low and high.
+    fn rank(self) -> u8
+        ensures { result ≡ rank self }
+    {
+        match self {
+            Ternary::Low => 0,
+            Ternary::Unknown => 1,
+            Ternary::High => 2,
+        }
+    }
+}
+
+// Not derived: a derived order is that of the cases' numbers, and callers may have these from a cast.
+impl Ord for Ternary {
+    ghost cmp = { on rank nat_cmp };
+
+    ghost total = { Prim.search (comparing, rules) };
+
+    ghost matches_partial_cmp = { Prim.search (comparing, rules) };
+
+    ghost matches_eq = { Prim.search (comparing, rules) };
+
+    fn cmp(&self, other: &Ternary) -> Ordering {
+        self.rank().cmp(&other.rank())
+    }
+}
+
+impl PartialOrd for Ternary {
+    ghost partial_cmp = { as_partial_cmp (on rank nat_cmp) };
+
+    ghost laws = { partial_order_from_own_ties (Prim.search (comparing, rules)) (Prim.search (comparing, rules)) };
+
+    fn partial_cmp(&self, other: &Ternary) -> Option<Ordering> {
+        Some(self.cmp(other))
+    }
 }
 
 impl Level for Ternary {

@@ -70,7 +70,7 @@ impl FileBytes {
     // Adds the bytes that pairs of digits say.
     fn add_pairs(&mut self, digits: &[u8]) -> io::Result<()> {
         for pair in digits.chunks(2) {
-            self.bytes.push(byte_of(pair)?)?;
+            self.bytes.push(byte_of(pair)?).map_err(|_| WrongParagraph)?;
         }
         Ok(())
     }

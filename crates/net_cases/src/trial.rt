@@ -77,8 +77,9 @@ impl Trial {
         }
         let file = file.as_slice();
         let net = netfile::read(file);
+        let got = Answer::from(&net).to_string(rt.alloc())?;
         self.tally
-            .judge(rt, name, self.answer.as_str(), Answer::from(&net))?;
+            .judge(rt, name, self.answer.as_str(), got.as_str())?;
         if lines.lines().any(|line| line == "say") {
             print_words(rt, &net, file.len())?;
         }
@@ -99,7 +100,8 @@ impl Trial {
                 Some((text, expected)) => {
                     let question: Question = text.parse()?;
                     let answer = question.answer(file.as_slice())?;
-                    self.tally.judge(rt, text, expected, answer)?;
+                    let got = answer.to_string(rt.alloc()).map_err(|_| WrongParagraph)?;
+                    self.tally.judge(rt, text, expected, got.as_str())?;
                 }
                 None => file.add_line(rt, line)?,
             }

@@ -70,9 +70,8 @@ impl NetFile {
     // Prints that the file is refused, and why.
     fn refuse(&self, rt: &impl Print, refusal: Refusal) -> io::Result<()> {
         let bytes = self.bytes.len();
-        let reason = Reason { refusal, bytes };
         println!(rt; "{self}, refused")?;
-        rt.println(RefusalCode::from(reason.refusal))?;
-        rt.println(reason)
+        rt.println(RefusalCode::from(refusal))?;
+        rt.println(Reason { refusal, bytes })
     }
 }

@@ -8,8 +8,7 @@ use Rattle.std.proofs.lemmas.Bool.{eqb-true, eq-eqb, ltb-true, lt-ltb, and_parts
 use Rattle.std.proofs.lemmas.Bool.Decides.{nat_tests, Decides-at, Decides-below_or}
 use Rattle.bitset.specs.Sets.{has, only}
 use Rattle.bitset.proofs.Sets.{has_or, has-only, has_none}
-use Rattle.nets.specs.declared.transition.Transition.{Transition}
-use Rattle.nets.specs.Nets.{unconnected, at}
+use Rattle.nets.specs.Nets.{unconnected, at, Transition}
 use Rattle.netfile.specs.declared.arcs.ArcRecord.{ArcRecord}
 use Rattle.netlayout.specs.declared.table.Table.TheVariants.{Places, Arcs, Terms}
 use Rattle.netlayout.specs.Layouts.{places_said, transitions_said, table_in}

@@ -8,8 +8,7 @@ use Rattle.std.proofs.lemmas.Bool.Decides.{nat_tests}
 use Rattle.bitset.specs.Room.{with_member}
 use Rattle.bitset.specs.Sets.{only}
 use Rattle.nets.specs.Kinds.{kind_number, kind_numbered}
-use Rattle.nets.specs.declared.transition.Transition.{Transition}
-use Rattle.nets.specs.Nets.{Net, unconnected, at}
+use Rattle.nets.specs.Nets.{Net, unconnected, at, Transition}
 use Rattle.nets.specs.Stored.{with_arc, given_term, blank_net}
 use Rattle.nets.specs.declared.arc_kind.ArcKind.{ArcKind}
 use Rattle.nets.specs.declared.arc_kind.ArcKind.TheVariants.{Consumes, Produces, Tests, Inhibits}

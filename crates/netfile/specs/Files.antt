@@ -2,8 +2,7 @@
 use Rattle.std.specs.Prelude.{ℕ, zero, suc, ◌+◌, ◌*◌, ◌/◌, Bool, cond, ◌&&◌, List, [], ◌∷◌, ◌++◌, map, length, take, drop, ◌==◌, bit_or}
 use Rattle.std.specs.List.{range_with_len}
 use Rattle.bitset.specs.Sets.{only}
-use Rattle.nets.specs.declared.transition.Transition.{Transition}
-use Rattle.nets.specs.Nets.{Net}
+use Rattle.nets.specs.Nets.{Net, Transition}
 use Rattle.nets.specs.declared.term.Term.{Term}
 use Rattle.netfile.specs.declared.arcs.ArcRecord.{ArcRecord}
 use Rattle.netfile.specs.declared.places.PlaceRecord.{PlaceRecord}

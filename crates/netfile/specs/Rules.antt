@@ -1,8 +1,7 @@
 -- The rules on a net file: every rule that a file breaks, in the order in which they are tested.
 use Rattle.std.specs.Prelude.{ℕ, zero, suc, Bool, false, not, ◌&&◌, ◌||◌, List, [], ◌++◌, length, ◌==◌, nat_le, nat_lt}
 use Rattle.bitset.specs.Sets.{within, apart, below}
-use Rattle.nets.specs.declared.transition.Transition.{Transition as NetTransition}
-use Rattle.nets.specs.Nets.{Net, at}
+use Rattle.nets.specs.Nets.{Net, at, Transition as NetTransition}
 use Rattle.nets.specs.declared.term.Term.{Term}
 use Rattle.netfile.specs.declared.arcs.ArcRecord.{ArcRecord}
 use Rattle.netfile.specs.declared.places.PlaceRecord.{PlaceRecord}

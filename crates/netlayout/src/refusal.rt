@@ -82,7 +82,7 @@ impl From<Refusal> for RefusalCode {
         let (number, table, index, second) = match refusal {
             Refusal::FileSize => (1, 0, 0, 0),
             Refusal::Pair(table, _) => (1, 0, table.number(), 0),
-            Refusal::Count(quantity) => (2, 0, quantity as usize, 0),
+            Refusal::Count(quantity) => (2, 0, quantity as usize + 1, 0),
             Refusal::PlacesLength => (2, 0, 5, 0),
             Refusal::Record(table, index, _) => (3, table.number(), index, 0),
             Refusal::RepeatedArc(index) => (4, Table::Arcs.number(), index, 0),

@@ -5,12 +5,11 @@ ghost use Rattle.netlayout.specs.Tables.{table_number, record_size, pair_place};
 
 use std::fmt;
 
-// Each has its number in a refusal.
 #[derive(Clone, Copy, Debug, PartialEq, Eq)]
 pub enum Table {
-    Places = 1,
-    Arcs = 2,
-    Terms = 3,
+    Places,
+    Arcs,
+    Terms,
 }
 
 impl Table {
@@ -18,7 +17,7 @@ impl Table {
     pub fn number(self) -> usize
         ensures { result ≡ table_number self }
     {
-        self as usize
+        self as usize + 1
     }
 
     // How many bytes one of its records has, by the file's layout.

@@ -1,10 +1,10 @@
 -- Clashes: two conflicting transitions that can both fire at some marking under some line word, and which of them is named.
 use Rattle.std.specs.Prelude.{◌≡◌, ℕ, zero, suc, ◌<◌, ◌≤◌, Bool, true, cond, ◌&&◌, List, [], ◌∷◌, length, Some, None, Option, bit_or}
+use Rattle.bitset.specs.Room.{word_of, set_of}
 use Rattle.bitset.specs.Sets.{within, apart, below}
 use Rattle.nets.specs.declared.clash.Clash.{Clash}
 use Rattle.nets.specs.declared.term.Term.{Term}
-use Rattle.nets.specs.declared.transition.Transition.{Transition}
-use Rattle.nets.specs.Nets.{Net, at}
+use Rattle.nets.specs.Nets.{Net, Transition, at}
 use Rattle.nets.specs.Firing.{needs, forbids, can_fire, conflict}
 use Rattle.nets.specs.WellFormed.{WellFormed}
 
@@ -48,7 +48,7 @@ both_enabled t u = apart (needs_of_both t u) (bit_or (forbids t) (forbids u))
 -- transitions i and j with this marking, and with a line word if there is one
 abbrev pub named : ℕ → ℕ → ℕ → Option ℕ → Option Clash
 named i j m None = None
-named i j m (Some w) = Some (record { lower = i; higher = j; marking = m; lines = w })
+named i j m (Some w) = Some (record { lower = i; higher = j; marking = set_of m; lines = w })
 
 -- the clash of transitions i and j, if they clash
 abbrev pub clash_between : Transition → Transition → ℕ → ℕ → Option Clash
@@ -79,9 +79,9 @@ pub record Clashing (n : Net) (i j m w : ℕ) : Type 0 where
 -- a clash is the one to be named
 pub record First (n : Net) (c : Clash) : Type 0 where
   -- the two clash at the marking and under the line word told
-  pub clashing : Clashing n c.lower c.higher c.marking c.lines
+  pub clashing : Clashing n c.lower c.higher (word_of c.marking) c.lines
   -- which have places and lines of the net only
-  pub marking_of_the_net : WellFormed n → within c.marking (below n.places) ≡ true
+  pub marking_of_the_net : WellFormed n → within (word_of c.marking) (below n.places) ≡ true
   pub lines_of_the_net : WellFormed n → within c.lines (below n.lines) ≡ true
   -- no clash has a lower higher number, and none with this higher number a lower lower one
   pub least_higher : (i j m w : ℕ) → Clashing n i j m w → c.higher ≤ j

@@ -3,7 +3,7 @@ use Rattle.std.specs.Prelude.{◌≡◌, ℕ, Bool, true, false, not, ◌&&◌, 
 use Rattle.std.specs.List.{list_any}
 use Rattle.bitset.specs.Sets.{within, apart, without}
 use Rattle.nets.specs.declared.term.Term.{Term}
-use Rattle.nets.specs.declared.transition.Transition.{Transition}
+use Rattle.nets.specs.Nets.{Transition}
 
 -- a term holds when each line of its high word is high and each of its low word low
 abbrev pub term_holds : ℕ → Term → Bool

@@ -1,6 +1,14 @@
 -- A signal interpreted Petri net. A set of places, lines or outputs is a word: number n is in it where bit n is 1.
 use Rattle.std.specs.Prelude.{ℕ, ◌≤◌, List, [], slice_index_or}
-use Rattle.nets.specs.declared.transition.Transition.{Transition}
+use Rattle.nets.specs.declared.term.Term.{Term}
+
+-- the places that it consumes, produces, tests and inhibits, and the terms of its condition
+pub record Transition : Type 0 where
+  pub consumes : ℕ
+  pub produces : ℕ
+  pub tests : ℕ
+  pub inhibits : ℕ
+  pub terms : List Term
 
 -- how many places, lines and outputs it has; the start places; what each place raises; its transitions
 pub record Net : Type 0 where

@@ -2,8 +2,7 @@
 use Rattle.std.specs.Prelude.{◌≡◌, ℕ, zero, suc, ◌+◌, ◌^◌, ◌<◌, Bool, true, false, cond, not, ◌&&◌, ◌||◌, List, [], ◌∷◌, length, ◌==◌, bit_and, bit_or, slice_index}
 use Rattle.std.specs.List.Sorted.{IsPermutation}
 use Rattle.bitset.specs.Sets.{has, without, only, below, members}
-use Rattle.nets.specs.declared.transition.Transition.{Transition}
-use Rattle.nets.specs.Nets.{Net, at}
+use Rattle.nets.specs.Nets.{Net, Transition, at}
 use Rattle.nets.specs.Firing.{can_fire, fire, conflict}
 use Rattle.nets.specs.WellFormed.{WellFormed}
 

@@ -5,9 +5,8 @@ use Rattle.nets.specs.declared.arc_kind.ArcKind.{ArcKind}
 use Rattle.nets.specs.declared.arc_kind.ArcKind.TheVariants.{Consumes, Produces, Tests, Inhibits}
 use Rattle.nets.specs.declared.counts.Counts.{Counts}
 use Rattle.nets.specs.declared.term.Term.{Term}
-use Rattle.nets.specs.declared.transition.Transition.{Transition}
 use Rattle.nets.specs.FixedVecs.{pushed}
-use Rattle.nets.specs.Nets.{Net, unconnected, at}
+use Rattle.nets.specs.Nets.{Net, Transition, unconnected, at}
 
 -- a net of these counts with no start place, output raised, arc or term
 abbrev pub blank_net : Counts → Net

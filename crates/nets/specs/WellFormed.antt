@@ -2,8 +2,7 @@
 use Rattle.std.specs.Prelude.{◌≡◌, ℕ, ◌+◌, ◌<◌, ◌≤◌, true, ◌≢◌, ◌⊎◌, length, slice_index, slice_index_or}
 use Rattle.bitset.specs.Sets.{has, within, apart, below, tell}
 use Rattle.nets.specs.declared.term.Term.{Term}
-use Rattle.nets.specs.declared.transition.Transition.{Transition}
-use Rattle.nets.specs.Nets.{Net, at}
+use Rattle.nets.specs.Nets.{Net, Transition, at}
 
 -- a term has lines of the net only, and no line both high and low
 pub record WellFormedTerm (n : Net) (c : Term) : Type 0 where

@@ -1,5 +1,6 @@
 // A net, held in arrays of fixed size.
 ghost use Rattle.std.specs.Prelude.{◌≡◌, ◌<◌, ◌≤◌, length, MatchOption};
+ghost use Rattle.bitset.specs.Room.{word_of};
 ghost use Rattle.nets.specs.Nets.{at};
 ghost use Rattle.nets.specs.Stored.{blank_net, net_with_arc, net_with_term, with_place_record};
 
@@ -23,15 +24,16 @@ pub struct Net {
 // Clauses see the net that is held; its counts are in their ranges.
 impl Model for Net {
     ghost use Rattle.std.specs.Prelude.{length};
+    ghost use Rattle.bitset.specs.Room.{word_of, set_of};
     ghost use Rattle.nets.specs.Nets.{Net as AnyNet, CountsInRange};
 
     ghost Value = { AnyNet };
 
-    ghost view = { λ n. record { places = length n.raises; lines = n.lines; outputs = n.outputs; start = n.start; raises = n.raises; transitions = n.transitions } };
+    ghost view = { λ n. record { places = length n.raises; lines = n.lines; outputs = n.outputs; start = word_of n.start; raises = n.raises; transitions = n.transitions } };
 
     ghost invariant = { λ n. CountsInRange (length n.raises) (length n.transitions) n.lines n.outputs };
 
-    ghost inverse = { λ n. record { lines = n.lines; outputs = n.outputs; start = n.start; raises = n.raises; transitions = n.transitions } };
+    ghost inverse = { λ n. record { lines = n.lines; outputs = n.outputs; start = set_of n.start; raises = n.raises; transitions = n.transitions } };
 }
 
 impl Net {
@@ -65,7 +67,7 @@ impl Net {
 
     // The places that are marked at the start.
     pub fn start(&self) -> PlaceSet
-        ensures { result ≡ self.now.start }
+        ensures { word_of result ≡ self.now.start }
     {
         self.start
     }

@@ -7,13 +7,12 @@ ghost use Rattle.std.specs.Result.{result_err};
 
 use std::fmt;
 
-// Each has the index by which a refusal names it.
 #[derive(Clone, Copy, Debug, PartialEq, Eq)]
 pub enum Quantity {
-    Places = 1,
-    Transitions = 2,
-    Lines = 3,
-    Outputs = 4,
+    Places,
+    Transitions,
+    Lines,
+    Outputs,
 }
 
 impl Quantity {

@@ -8,6 +8,7 @@ use crate::arc_kind::ArcKind;
 use crate::fixed_vec::Blank;
 use crate::term::{Term, Terms};
 use bitset::PlaceSet;
+use std::marker::Model;
 
 #[derive(Clone, Copy)]
 pub struct Transition {
@@ -16,6 +17,18 @@ pub struct Transition {
     pub tests: PlaceSet,
     pub inhibits: PlaceSet,
     pub terms: Terms,
+}
+
+// Clauses see the sets as words, and the terms as a list.
+impl Model for Transition {
+    ghost use Rattle.bitset.specs.Room.{word_of, set_of};
+    ghost use Rattle.nets.specs.Nets.{Transition as AnyTransition};
+
+    ghost Value = { AnyTransition };
+
+    ghost view = { λ t. record { consumes = word_of t.consumes; produces = word_of t.produces; tests = word_of t.tests; inhibits = word_of t.inhibits; terms = t.terms } };
+
+    ghost inverse = { λ t. record { consumes = set_of t.consumes; produces = set_of t.produces; tests = set_of t.tests; inhibits = set_of t.inhibits; terms = t.terms } };
 }
 
 // A transition with no arc and no term.

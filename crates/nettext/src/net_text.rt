@@ -55,8 +55,8 @@ struct TermText(Term);
 impl fmt::Display for TermText {
     fn fmt<W: fmt::Write>(&self, f: &mut fmt::Formatter<W>) -> fmt::Result {
         let Term { high, low } = self.0;
-        let highs = Being(Numbered(high.into(), Noun::Line));
-        let lows = Being(Numbered(low.into(), Noun::Line));
+        let highs = Being(Numbered::lines(high));
+        let lows = Being(Numbered::lines(low));
         match (high, low) {
             (0, 0) => write!(f, "always"),
             (_, 0) => write!(f, "when {highs} high"),
@@ -84,8 +84,8 @@ fn write_transition<W: fmt::Write>(
     number: usize,
     transition: &Transition,
 ) -> fmt::Result {
-    let consumed = Numbered(transition.consumes.into(), Noun::Place);
-    let produced = Numbered(transition.produces.into(), Noun::Place);
+    let consumed = Numbered::places(transition.consumes);
+    let produced = Numbered::places(transition.produces);
     write_row(f, Subject::Transition(number), "consumes", consumed)?;
     write_row(f, Subject::Same, "produces", produced)?;
     let seen = [
@@ -94,7 +94,7 @@ fn write_transition<W: fmt::Write>(
     ];
     for (verb, places) in seen {
         if !places.is_empty() {
-            write_row(f, Subject::Same, verb, Numbered(places.into(), Noun::Place))?;
+            write_row(f, Subject::Same, verb, Numbered::places(places))?;
         }
     }
     write_terms(f, transition.terms.as_slice())
@@ -115,8 +115,7 @@ fn write_transitions<W: fmt::Write>(
 // Writes the places by number, each with the outputs that it raises.
 fn write_places<W: fmt::Write>(f: &mut fmt::Formatter<W>, raises: &[u32]) -> fmt::Result {
     for (i, word) in raises.iter().enumerate() {
-        let raised = Numbered(u64::from(*word), Noun::Output);
-        write_row(f, Subject::Place(i), "raises", raised)?;
+        write_row(f, Subject::Place(i), "raises", Numbered::outputs(*word))?;
     }
     Ok(())
 }
@@ -128,7 +127,7 @@ pub struct NetText<'a>(pub &'a Net);
 impl fmt::Display for NetText<'_> {
     fn fmt<W: fmt::Write>(&self, f: &mut fmt::Formatter<W>) -> fmt::Result {
         let net = self.0;
-        let marked = Numbered(net.start().into(), Noun::Place);
+        let marked = Numbered::places(net.start());
         write_row(f, Subject::Net, "has", CountsText(net.counts()))?;
         write_row(
             f,

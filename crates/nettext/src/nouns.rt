@@ -1,4 +1,9 @@
 // Counts and numbers of what a net has, in words.
+ghost use Rattle.std.specs.Prelude.{◌≡◌};
+ghost use Rattle.bitset.specs.Room.{word_of};
+ghost use Rattle.nettext.specs.declared.nouns.Noun.TheVariants.{Place, Line, Output};
+
+use bitset::PlaceSet;
 use std::fmt;
 
 // What is counted or numbered.
@@ -39,7 +44,31 @@ impl fmt::Display for Counted {
 
 // Those of a noun whose bits are 1 in a word, as `place 3` or `places 0, 3 and 7`.
 #[derive(Clone, Copy)]
-pub(crate) struct Numbered(pub u64, pub Noun);
+pub(crate) struct Numbered(u64, Noun);
+
+// Three, so that what is numbered tells its noun.
+impl Numbered {
+    // The places of a set.
+    pub(crate) fn places(set: PlaceSet) -> Numbered
+        ensures { (result.0 ≡ word_of set) × (result.1 ≡ Place) }
+    {
+        Numbered(set.into(), Noun::Place)
+    }
+
+    // The lines of a word.
+    pub(crate) fn lines(word: u32) -> Numbered
+        ensures { (result.0 ≡ word) × (result.1 ≡ Line) }
+    {
+        Numbered(word.into(), Noun::Line)
+    }
+
+    // The outputs of a word.
+    pub(crate) fn outputs(word: u32) -> Numbered
+        ensures { (result.0 ≡ word) × (result.1 ≡ Output) }
+    {
+        Numbered(word.into(), Noun::Output)
+    }
+}
 
 impl fmt::Display for Numbered {
     fn fmt<W: fmt::Write>(&self, f: &mut fmt::Formatter<W>) -> fmt::Result {

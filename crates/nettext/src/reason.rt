@@ -41,14 +41,14 @@ impl fmt::Display for PairText {
     }
 }
 
-// What is wrong with a count; the counts are the file's first bytes, in the order of the quantities' numbers.
+// What is wrong with a count; the counts are the file's first bytes, in the order of the quantities.
 #[derive(Clone, Copy)]
 struct QuantityText(Quantity);
 
 impl fmt::Display for QuantityText {
     fn fmt<W: fmt::Write>(&self, f: &mut fmt::Formatter<W>) -> fmt::Result {
         let quantity = self.0;
-        let byte = quantity as usize - 1;
+        let byte = quantity as usize;
         let most = quantity.most();
         write!(
             f,
@@ -69,8 +69,8 @@ impl fmt::Display for ClashText {
             marking,
             lines,
         } = self.0;
-        let marked = Being(Numbered(marking.into(), Noun::Place));
-        let high = Being(Numbered(lines.into(), Noun::Line));
+        let marked = Being(Numbered::places(marking));
+        let high = Being(Numbered::lines(lines));
         write!(
             f,
             "Transitions {lower} and {higher} clash: they conflict, and both can fire where {marked} marked and {high} high."

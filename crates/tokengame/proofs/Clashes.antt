@@ -4,12 +4,12 @@ use mathlib.Core.Bool.{false≢true}
 use lib.Bits.{bit_or}
 use Rattle.std.proofs.lemmas.List.{drop_more}
 use Rattle.std.proofs.lemmas.Bool.{and_parts, and_from, or_cases, or_left, or_right, cases_lt}
+use Rattle.bitset.specs.Room.{set_of}
 use Rattle.bitset.specs.Sets.{within, apart, below}
 use Rattle.bitset.proofs.Sets.{apart_comm, within_left, within_right, within_both, apart_both, apart_parts, apart_by}
 use Rattle.nets.specs.declared.clash.Clash.{Clash}
 use Rattle.nets.specs.declared.term.Term.{Term}
-use Rattle.nets.specs.declared.transition.Transition.{Transition}
-use Rattle.nets.specs.Nets.{Net, at}
+use Rattle.nets.specs.Nets.{Net, at, Transition}
 use Rattle.nets.specs.Firing.{term_holds, condition, needs, forbids, enabled, can_fire, conflict}
 use Rattle.nets.specs.Clashes.{or_else, first_below, first_over, lines_of_both, lines_with, lines_for, needs_of_both, both_enabled, named, clash_between, clash_with, clash_below, first_clash, Clashing, First, Told}
 use Rattle.nets.specs.WellFormed.{always, WellFormed}
@@ -139,7 +139,7 @@ enabled_there t u e =
     )
 
 abbrev clash_at : ℕ → ℕ → ℕ → ℕ → Clash
-clash_at i j m w = record { lower = i; higher = j; marking = m; lines = w }
+clash_at i j m w = record { lower = i; higher = j; marking = set_of m; lines = w }
 
 between : (t u : Transition) (i j : ℕ) (c : Clash) → clash_between t u i j ≡ Some c
     → (w : ℕ) × (clash_at i j (needs_of_both t u) w ≡ c) × (conflict t u ≡ true) × (both_enabled t u ≡ true) × (lines_for t.terms u.terms ≡ Some w)

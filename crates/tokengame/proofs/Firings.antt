@@ -3,7 +3,7 @@ use Rattle.std.proofs.Common.{◌≡◌, ℕ, ◌+◌, Bool, true, false, not, �
 use lib.Bits.{bit_or}
 use Rattle.std.proofs.lemmas.Bool.{and_parts, and_from}
 use Rattle.bitset.specs.Sets.{has, within, apart, without, tell}
-use Rattle.nets.specs.declared.transition.Transition.{Transition}
+use Rattle.nets.specs.Nets.{Transition}
 use Rattle.nets.specs.Firing.{enabled, can_fire, condition, fire, conflict}
 use Rattle.bitset.proofs.Sets.{has_or, has-without, within_each, within_from, apart_each, apart_from, apart_comm}
 

@@ -9,8 +9,7 @@ use Rattle.bitset.specs.Sets.{has, within, apart, without, below, members}
 use Rattle.bitset.proofs.Lists.{first_joined, first_past}
 use Rattle.bitset.proofs.Sets.{has_or, has_and, has-without, has_none, same_word, within_each, within_from, apart_each, apart_from, first_lowest}
 use Rattle.nets.specs.Firing.{condition, needs, forbids, enabled, hindering, can_fire}
-use Rattle.nets.specs.declared.transition.Transition.{Transition}
-use Rattle.nets.specs.Nets.{Net, at}
+use Rattle.nets.specs.Nets.{Net, at, Transition}
 use Rattle.tokengame.specs.declared.game_refusal.GameRefusal.{GameRefusal}
 use Rattle.tokengame.specs.declared.game_refusal.GameRefusal.TheVariants.{UnknownPlace, UnknownTransition, NotEnabled, ConditionFails}
 use Rattle.tokengame.specs.Games.{where_so, each_hindering, obstacles, GameLaws}

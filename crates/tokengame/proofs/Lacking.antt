@@ -3,8 +3,7 @@ use Rattle.std.proofs.Common.{◌≡◌, ℕ, ◌≤◌, false, length, sym, ref
 use Rattle.std.proofs.lemmas.List.{get_or_past}
 use Rattle.std.proofs.lemmas.Bool.{and_right}
 use Rattle.bitset.proofs.Sets.{has_none}
-use Rattle.nets.specs.declared.transition.Transition.{Transition}
-use Rattle.nets.specs.Nets.{Net, unconnected, at}
+use Rattle.nets.specs.Nets.{Net, unconnected, at, Transition}
 use Rattle.nets.specs.Firing.{enabled, can_fire, conflict}
 use Rattle.tokengame.proofs.Firings.{conflict_from, conflict_comm}
 

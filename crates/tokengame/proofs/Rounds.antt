@@ -8,8 +8,7 @@ use Rattle.std.proofs.lemmas.List.Sorted.{sum_by-IsPermutation, IsPermutation-re
 use Rattle.std.proofs.lemmas.Bool.{and_parts, or_parts, or_cases, not-true, eq-eqb, ne_eqb, cases_lt, cases_order, cases_Bool}
 use Rattle.std.proofs.lemmas.Bool.Decides.{nat_tests}
 use Rattle.bitset.specs.Sets.{has, without, only, below, members, tell, count}
-use Rattle.nets.specs.declared.transition.Transition.{Transition}
-use Rattle.nets.specs.Nets.{Net, at}
+use Rattle.nets.specs.Nets.{Net, at, Transition}
 use Rattle.nets.specs.Firing.{enabled, can_fire, condition, fire, conflict}
 use Rattle.nets.specs.Rounds.{begins, excluded, taken, union, fire_all, ends, Fires, weigh, weight, Balanced, LinesIgnored, RoundsKeepTheirLaws, RoundsKeepWeights}
 use Rattle.bitset.proofs.Sets.{below_from_has, has_or, has-without, has_none, has-only, same_word, count-members}

@@ -5,8 +5,7 @@ use Rattle.std.specs.List.Sorted.{IsPermutation}
 use Rattle.std.proofs.lemmas.List.Sorted.{IsPermutation-refl, IsPermutation-cons, IsPermutation-trans, IsPermutation-swap}
 use Rattle.std.proofs.lemmas.Bool.{and_parts, ne_eqb, lt-ltb, cases_lt, cases_eq, cases_Bool}
 use Rattle.bitset.specs.Sets.{has, members, tell, count}
-use Rattle.nets.specs.declared.transition.Transition.{Transition}
-use Rattle.nets.specs.Nets.{Net, at}
+use Rattle.nets.specs.Nets.{Net, at, Transition}
 use Rattle.nets.specs.Firing.{enabled, can_fire, condition, fire, conflict, ConflictsHinder}
 use Rattle.nets.specs.Rounds.{begins, excluded, report, ends, Fires, Round, LawsTellTheRound}
 use Rattle.bitset.proofs.Sets.{has_past, same_word, count-members}

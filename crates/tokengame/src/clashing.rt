@@ -55,9 +55,11 @@ fn clash_between(one: &Transition, other: &Transition, lower: usize, higher: usi
 fn clash_below(net: &Net, higher: usize, other: &Transition) -> Option<Clash>
     ensures { result ≡ clash_with net.now other.now higher (min higher (length net.now.transitions)) }
 {
-    net.transitions()
+    let transitions = net.transitions();
+    // A slice and no `take`, which would count beside the slice.
+    let below = &transitions[..higher.min(transitions.len())];
+    below
         .iter()
-        .take(higher)
         .enumerate()
         .find_map(|(lower, one)| clash_between(one, other, lower, higher))
 }

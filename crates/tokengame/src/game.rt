@@ -1,5 +1,6 @@
 // The token game: one transition is fired at a marking, with no start rule. An open call takes net, marking and lines apart, as a caller has them.
 ghost use Rattle.std.specs.Prelude.{◌≡◌, is_ok, IfOk};
+ghost use Rattle.bitset.specs.Room.{word_of};
 ghost use Rattle.bitset.specs.Lists.{first_of};
 ghost use Rattle.nets.specs.Firing.{fire as fired_marking};
 ghost use Rattle.nets.specs.Nets.{at};
@@ -14,10 +15,10 @@ use nets::{Net, Transition};
 
 // Transition `number` of the net, if nothing stands in the way of firing it.
 fn free_to_fire(net: &Net, now: Moment, number: usize) -> Result<&Transition, GameRefusal>
-    ensures refused { result_err result ≡ first_of (obstacles net.now now.marking now.lines number) }
-    ensures accepted { is_ok result ≡ playable net.now now.marking now.lines number }
+    ensures refused { result_err result ≡ first_of (obstacles net.now (word_of now.marking) now.lines number) }
+    ensures accepted { is_ok result ≡ playable net.now (word_of now.marking) now.lines number }
     ensures granted { IfOk result (λ t. t.now ≡ at net.now number) }
-    ensures laws { GameLaws net.now now.marking now.lines number }
+    ensures laws { GameLaws net.now (word_of now.marking) now.lines number }
 {
     let Moment { marking, lines } = now;
     if !now.has_places(net) {
@@ -42,10 +43,10 @@ pub fn play(
     lines: u32,
     number: usize,
 ) -> Result<PlaceSet, GameRefusal>
-    ensures refused { result_err result ≡ first_of (obstacles net.now marking lines number) }
-    ensures accepted { is_ok result ≡ playable net.now marking lines number }
-    ensures granted { IfOk result (λ m. m ≡ fired_marking marking (at net.now number)) }
-    ensures laws { GameLaws net.now marking lines number }
+    ensures refused { result_err result ≡ first_of (obstacles net.now (word_of marking) lines number) }
+    ensures accepted { is_ok result ≡ playable net.now (word_of marking) lines number }
+    ensures granted { IfOk result (λ m. word_of m ≡ fired_marking (word_of marking) (at net.now number)) }
+    ensures laws { GameLaws net.now (word_of marking) lines number }
 {
     let now = Moment { marking, lines };
     let transition = free_to_fire(net, now, number)?;

@@ -1,5 +1,6 @@
 // A marking and a line word: what says which transitions can fire. Open calls take these and the net apart: a caller has them from different hands.
 ghost use Rattle.std.specs.Prelude.{◌≡◌, ◌<◌, length};
+ghost use Rattle.bitset.specs.Room.{word_of};
 ghost use Rattle.bitset.specs.Sets.{within, below};
 ghost use Rattle.nets.specs.Firing.{can_fire as fires};
 ghost use Rattle.nets.specs.Nets.{at};
@@ -18,16 +19,18 @@ pub(crate) struct Moment {
 
 // Whether one of the transitions taken below `number` conflicts with `transition`.
 fn excluded(net: &Net, taken: TransitionSet, number: usize, transition: &Transition) -> bool
-    ensures { number < length net.now.transitions → result ≡ conflicts_below net.now taken transition.now number }
+    ensures { number < length net.now.transitions → result ≡ conflicts_below net.now (word_of taken) transition.now number }
 {
-    let mut lower = net.transitions().iter().take(number).enumerate();
-    lower.any(|(other, held)| taken.has(other) && conflict(held, transition))
+    let transitions = net.transitions();
+    // A slice and no `take`, as for a clash.
+    let below = &transitions[..number.min(transitions.len())];
+    below.iter().enumerate().any(|(other, held)| taken.has(other) && conflict(held, transition))
 }
 
 impl Moment {
     // Whether the net has each place of the marking.
     pub(crate) fn has_places(&self, net: &Net) -> bool
-        ensures { result ≡ within self.now.marking (below net.now.places) }
+        ensures { result ≡ within (word_of self.now.marking) (below net.now.places) }
     {
         PlaceSet::below(net.counts().places).includes(self.marking)
     }
@@ -43,7 +46,7 @@ impl Moment {
         requires few { number < 64 }
         requires of_the_net { number < length net.now.transitions }
         requires same { transition.now ≡ at net.now number }
-        ensures { result ≡ take_next net.now self.now.marking self.now.lines number taken }
+        ensures { word_of result ≡ take_next net.now (word_of self.now.marking) self.now.lines number (word_of taken) }
     {
         if can_fire(transition, self.marking, self.lines)
             && !excluded(net, taken, number, transition)
@@ -56,7 +59,7 @@ impl Moment {
 
     // The transitions that are taken, in rising number.
     pub(crate) fn taken(&self, net: &Net) -> TransitionSet
-        ensures { result ≡ taken_below net.now self.now.marking self.now.lines (length net.now.transitions) }
+        ensures { word_of result ≡ taken_below net.now (word_of self.now.marking) self.now.lines (length net.now.transitions) }
     {
         let mut taken = TransitionSet::empty();
         for (number, transition) in net.transitions().iter().enumerate() {

@@ -1,5 +1,6 @@
 // A round: which transitions fire together at a marking under a line word, and where that ends. Net, marking and lines are apart, as a caller has them.
 ghost use Rattle.std.specs.Prelude.{◌≡◌};
+ghost use Rattle.bitset.specs.Room.{word_of};
 ghost use Rattle.nets.specs.Rounds.{begins as beginning, fire_all as fired_together, report as report_of, ends, Round, LawsTellTheRound, RoundsKeepWeights, LinesIgnored};
 
 use crate::moment::Moment;
@@ -8,7 +9,7 @@ use nets::Net;
 
 // Where a round begins.
 fn begins(net: &Net, marking: PlaceSet) -> PlaceSet
-    ensures { result ≡ beginning net.now marking }
+    ensures { word_of result ≡ beginning net.now (word_of marking) }
 {
     if marking.is_empty() {
         net.start()
@@ -19,7 +20,7 @@ fn begins(net: &Net, marking: PlaceSet) -> PlaceSet
 
 // The marking after all of `fired` fire together.
 fn fire_all(net: &Net, fired: TransitionSet, marking: PlaceSet) -> PlaceSet
-    ensures { result ≡ fired_together net.now fired marking }
+    ensures { word_of result ≡ fired_together net.now (word_of fired) (word_of marking) }
 {
     let mut consumed = PlaceSet::empty();
     let mut produced = PlaceSet::empty();
@@ -41,12 +42,12 @@ pub struct Outcome {
 
 // One round from a marking under a line word.
 pub fn round(net: &Net, marking: PlaceSet, lines: u32) -> Outcome
-    ensures report { result.report ≡ report_of net.now marking lines }
-    ensures end { result.marking ≡ ends net.now marking lines }
-    ensures law { Round net.now lines marking result.report result.marking }
+    ensures report { word_of result.report ≡ report_of net.now (word_of marking) lines }
+    ensures end { word_of result.marking ≡ ends net.now (word_of marking) lines }
+    ensures law { Round net.now lines (word_of marking) (word_of result.report) (word_of result.marking) }
     ensures told { LawsTellTheRound }
     ensures weights { RoundsKeepWeights }
-    ensures ignored { LinesIgnored net.now marking lines }
+    ensures ignored { LinesIgnored net.now (word_of marking) lines }
 {
     let marking = begins(net, marking);
     let report = Moment { marking, lines }.taken(net);

@@ -1,4 +1,5 @@
 use Rattle.std.proofs.Common.{◌≡◌, get_or, ap, ◌∙◌, arith}
+use Rattle.bitset.specs.Room.{word_of}
 use Rattle.nets.specs.Rounds.{union}
 use Rattle.tokengame.proofs.Unions.{raised}
 use Rattle.tokengame.proofs.raised_outputs.outputs.Goals as goal
@@ -9,6 +10,6 @@ returns c =
     let long = c.raises-word-items.ensures.one_each in
     let all : c.loop-place.place ≡ n.places = omega (arith, c.loop-place-test.false, c.loop-place.auto.place-end) in
     record {
-      answer = c.loop-place.invariant ∙ ap (union (λ p. get_or n.raises p 0) c.args.marking) all;
-      law = raised n c.args.marking;
+      answer = c.loop-place.invariant ∙ ap (union (λ p. get_or n.raises p 0) (word_of c.args.marking)) all;
+      law = raised n (word_of c.args.marking);
     }
