@@ -70,12 +70,21 @@ impl Level for Ternary {
         Ternary::High
     }
 
+    // Matches: the lesser by an order that is not derived took half as long again.
     fn both(self, other: Ternary) -> Ternary {
-        self.min(other)
+        match (self, other) {
+            (Ternary::Low, _) | (_, Ternary::Low) => Ternary::Low,
+            (Ternary::High, Ternary::High) => Ternary::High,
+            _ => Ternary::Unknown,
+        }
     }
 
     fn either(self, other: Ternary) -> Ternary {
-        self.max(other)
+        match (self, other) {
+            (Ternary::High, _) | (_, Ternary::High) => Ternary::High,
+            (Ternary::Low, Ternary::Low) => Ternary::Low,
+            _ => Ternary::Unknown,
+        }
     }
 
     fn inverse(self) -> Ternary {

@@ -2,6 +2,7 @@
 use Rattle.std.proofs.Common.{◌≡◌, ℕ, true, List, [], ◌∷◌, ◌++◌, IfOk, Ok, Err, Result, sym, refl, ◌∙◌, subst}
 use mathlib.Core.Bool.{false≢true}
 use Rattle.bitset.specs.Lists.{none_in}
+use Rattle.nets.specs.Stored.{net_of}
 use Rattle.nets.specs.declared.net.Net.{Net as StoredNet}
 use Rattle.nets.specs.Clashes.{first_clash}
 use Rattle.nets.specs.WellFormed.{WellFormed}
@@ -22,8 +23,8 @@ only_clash file = go (broken file)
     go (x ∷ xs) e = absurd (false≢true (sym e))
 
 -- a net that is the one read keeps what was promised of that
-pub same_net : (file : List ℕ) (n : StoredNet) (r : Result StoredNet Refusal) → n ≡ net_in file → Says file n → WellFormed n
-    → IfOk r (λ x. x ≡ n)
-    → IfOk r (λ x. x ≡ net_in file) × IfOk r (λ x. Says file x) × IfOk r (λ x. WellFormed x)
+pub same_net : (file : List ℕ) (n : StoredNet) (r : Result StoredNet Refusal) → net_of n ≡ net_in file → Says file (net_of n) → WellFormed (net_of n)
+    → IfOk r (λ x. net_of x ≡ net_of n)
+    → IfOk r (λ x. net_of x ≡ net_in file) × IfOk r (λ x. Says file (net_of x)) × IfOk r (λ x. WellFormed (net_of x))
 same_net file n (Ok x) e s f h = (h ∙ e, subst (Says file) (sym h) s, subst WellFormed (sym h) f)
 same_net file n (Err y) e s f h = (tt, tt, tt)

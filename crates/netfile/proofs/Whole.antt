@@ -6,7 +6,7 @@ use Rattle.std.specs.Result.{result_err}
 use Rattle.bitset.specs.Lists.{first_of}
 use Rattle.bitset.proofs.Lists.{none_first, first_joined, first_past}
 use Rattle.nets.specs.Ranges.{out_of_range}
-use Rattle.nets.specs.Stored.{blank_net}
+use Rattle.nets.specs.Stored.{blank_net, net_of}
 use Rattle.nets.specs.WellFormed.{WellFormed}
 use Rattle.nets.specs.declared.counts.Counts.{Counts}
 use Rattle.nets.specs.declared.net.Net.{Net as StoredNet}
@@ -126,12 +126,12 @@ accepted_from (Err y) (x ∷ l) e = refl
 pub record Promised (file : List ℕ) (r : Result StoredNet Refusal) : Type 0 where
   pub refused : result_err r ≡ first_of (broken file)
   pub accepted : is_ok r ≡ none_in (broken file)
-  pub granted : IfOk r (λ n. n ≡ net_in file)
-  pub said : IfOk r (λ n. Says file n)
-  pub lawful : IfOk r (λ n. WellFormed n)
+  pub granted : IfOk r (λ n. net_of n ≡ net_in file)
+  pub said : IfOk r (λ n. Says file (net_of n))
+  pub lawful : IfOk r (λ n. WellFormed (net_of n))
 
 pub promised : (file : List ℕ) (r : Result StoredNet Refusal) → result_err r ≡ first_of (broken file)
-    → IfOk r (λ n. (first_of (broken file) ≡ None → n ≡ net_in file) × (first_of (broken file) ≡ None → WellFormed (net_in file))) → Promised file r
+    → IfOk r (λ n. (first_of (broken file) ≡ None → net_of n ≡ net_in file) × (first_of (broken file) ≡ None → WellFormed (net_in file))) → Promised file r
 promised file (Ok n) e h =
     let same = h.0 (sym e) in
     record { refused = e; accepted = accepted_from (Ok n) (broken file) e; granted = same; said = subst (Says file) (sym same) (says file); lawful = subst WellFormed (sym same) (h.1 (sym e)) }
@@ -146,12 +146,12 @@ counts_first file x layout e =
 -- the reader's answer, where neither the layout nor the counts break anything
 pub finished : (file : List ℕ) (c : Counts) → Tells c file → first_of (size_broken file ++ pairs_broken file) ≡ None → first_of (counts_broken file) ≡ None
     → (ps ars ts : List ℕ) → ps ≡ table_in file Places → ars ≡ table_in file Arcs → ts ≡ table_in file Terms
-    → (r : Result StoredNet Refusal) → result_err r ≡ first_of (filling_wrong (blank_net c) ps ars ts) → IfOk r (λ n. n ≡ filled_net (blank_net c) ps ars ts) → Promised file r
+    → (r : Result StoredNet Refusal) → result_err r ≡ first_of (filling_wrong (blank_net c) ps ars ts) → IfOk r (λ n. net_of n ≡ filled_net (blank_net c) ps ars ts) → Promised file r
 finished file c tells layout counts ps ars ts p a t r e h =
     promised file r
     (e ∙ ap first_of (same_tables (filling_wrong (blank_net c))) ∙ reads file c tells layout counts)
-    (IfOk-weaker r (λ n. n ≡ filled_net (blank_net c) ps ars ts)
-    (λ n. (first_of (broken file) ≡ None → n ≡ net_in file) × (first_of (broken file) ≡ None → WellFormed (net_in file)))
+    (IfOk-weaker r (λ n. net_of n ≡ filled_net (blank_net c) ps ars ts)
+    (λ n. (first_of (broken file) ≡ None → net_of n ≡ net_in file) × (first_of (broken file) ≡ None → WellFormed (net_in file)))
     (λ n s. (λ g. s ∙ same_tables (filled_net (blank_net c)) ∙ fills file c tells layout counts g, lawful file c tells layout counts)) h)
   where
     same_tables : {X : Type 0} (f : List ℕ → List ℕ → List ℕ → X) → f ps ars ts ≡ f (table_in file Places) (table_in file Arcs) (table_in file Terms)

@@ -5,7 +5,7 @@ ghost use Rattle.netfile.specs.Rules.{broken};
 ghost use Rattle.netfile.specs.Says.{Says};
 ghost use Rattle.netfile.specs.Steps.{filled_net, filling_wrong};
 ghost use Rattle.bitset.specs.Lists.{first_of, none_in};
-ghost use Rattle.nets.specs.Stored.{blank_net};
+ghost use Rattle.nets.specs.Stored.{blank_net, net_of};
 ghost use Rattle.nets.specs.WellFormed.{WellFormed};
 ghost use Rattle.std.specs.Result.{result_err};
 
@@ -20,7 +20,7 @@ use nets::{Counts, Net};
 // The net of these counts that the tables say, or the first rule that they break.
 fn filled(counts: Counts, tables: Tables) -> Result<Net, Refusal>
     ensures refused { result_err result ≡ first_of (filling_wrong (blank_net counts) tables.entry.places.now tables.entry.arcs.now tables.entry.terms.now) }
-    ensures granted { IfOk result (λ n. n ≡ filled_net (blank_net counts) tables.entry.places.now tables.entry.arcs.now tables.entry.terms.now) }
+    ensures granted { IfOk result (λ n. net_of n ≡ filled_net (blank_net counts) tables.entry.places.now tables.entry.arcs.now tables.entry.terms.now) }
 {
     let mut net = Net::blank(counts);
     put_records::<PlaceRecord, 5>(&mut net, tables.places)?;
@@ -34,9 +34,9 @@ fn filled(counts: Counts, tables: Tables) -> Result<Net, Refusal>
 pub fn read(file: &[u8]) -> Result<Net, Refusal>
     ensures refused { result_err result ≡ first_of (broken file.now) }
     ensures accepted { is_ok result ≡ none_in (broken file.now) }
-    ensures granted { IfOk result (λ n. n ≡ net_in file.now) }
-    ensures said { IfOk result (λ n. Says file.now n) }
-    ensures lawful { IfOk result (λ n. WellFormed n) }
+    ensures granted { IfOk result (λ n. net_of n ≡ net_in file.now) }
+    ensures said { IfOk result (λ n. Says file.now (net_of n)) }
+    ensures lawful { IfOk result (λ n. WellFormed (net_of n)) }
 {
     let tables = tables_in(file)?;
     let counts = counts_in(file)?;

@@ -5,6 +5,7 @@ ghost use Rattle.netfile.specs.Steps.{with_records, records_wrong};
 ghost use Rattle.netlayout.specs.declared.refusal.Refusal.{Refusal as AnyRefusal};
 ghost use Rattle.nets.specs.Nets.{Net as AnyNet};
 ghost use Rattle.std.specs.Result.{result_err};
+ghost use Rattle.nets.specs.Stored.{net_of};
 
 use netlayout::Refusal;
 use nets::Net;
@@ -25,8 +26,8 @@ pub(crate) trait Record<const N: usize>: Copy {
 
     // Puts it into the net as record `index`, which its bytes do not tell, or says which rule it breaks.
     fn put(self, net: &mut Net, index: usize) -> Result<(), Refusal>
-        ensures refused { result_err result ≡ first_of (wrong net.old self index) }
-        ensures granted { OnOk result (net.new ≡ put_in net.old self index) };
+        ensures refused { result_err result ≡ first_of (wrong (net_of net.old) self index) }
+        ensures granted { OnOk result (net_of net.new ≡ put_in (net_of net.old) self index) };
 }
 
 // Puts the records of a table into the net, up to the first that breaks a rule.
@@ -36,8 +37,8 @@ pub(crate) fn put_records<R: Record<N>, const N: usize>(
 ) -> Result<(), Refusal>
     requires some { 0 < N }
     requires few { N < 256 }
-    ensures refused { result_err result ≡ first_of (records_wrong R.said R.put_in R.wrong N net.old table.now) }
-    ensures granted { OnOk result (net.new ≡ with_records R.said R.put_in N net.old table.now) }
+    ensures refused { result_err result ≡ first_of (records_wrong R.said R.put_in R.wrong N (net_of net.old) table.now) }
+    ensures granted { OnOk result (net_of net.new ≡ with_records R.said R.put_in N (net_of net.old) table.now) }
 {
     let (records, _) = table.as_chunks::<N>();
     for (index, bytes) in records.iter().enumerate() {

@@ -1,1 +1,2 @@
-pub mod FixedVecs
+pub mod Filling
+pub mod Items

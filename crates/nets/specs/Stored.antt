@@ -1,12 +1,37 @@
--- What the calls that fill a net do to it.
-use Rattle.std.specs.Prelude.{ℕ, Bool, cond, ◌&&◌, length, replicate, bit_or, nat_lt, slice_set}
-use Rattle.bitset.specs.Room.{with_member}
+-- The net that the code's structs stand for, and what the calls that fill it do to it.
+use Rattle.std.specs.Prelude.{ℕ, Bool, cond, ◌&&◌, map, length, replicate, bit_or, nat_lt, slice_set}
+use Rattle.bitset.specs.Room.{word_of, with_member}
 use Rattle.nets.specs.declared.arc_kind.ArcKind.{ArcKind}
 use Rattle.nets.specs.declared.arc_kind.ArcKind.TheVariants.{Consumes, Produces, Tests, Inhibits}
 use Rattle.nets.specs.declared.counts.Counts.{Counts}
+use Rattle.nets.specs.declared.net.Net.{Net as StoredNet}
 use Rattle.nets.specs.declared.term.Term.{Term}
-use Rattle.nets.specs.FixedVecs.{pushed}
+use Rattle.nets.specs.declared.transition.Transition.{Transition as StoredTransition}
+use Rattle.nets.specs.FixedVecs.{listed, pushed}
 use Rattle.nets.specs.Nets.{Net, Transition, unconnected, at}
+
+-- the transition that is held
+abbrev pub transition_of : StoredTransition → Transition
+transition_of t =
+    record {
+      consumes = word_of t.consumes;
+      produces = word_of t.produces;
+      tests = word_of t.tests;
+      inhibits = word_of t.inhibits;
+      terms = listed t.terms;
+    }
+
+-- the net that is held
+abbrev pub net_of : StoredNet → Net
+net_of n =
+    record {
+      places = length (listed n.raises);
+      lines = n.lines;
+      outputs = n.outputs;
+      start = word_of n.start;
+      raises = listed n.raises;
+      transitions = map transition_of (listed n.transitions);
+    }
 
 -- a net of these counts with no start place, output raised, arc or term
 abbrev pub blank_net : Counts → Net

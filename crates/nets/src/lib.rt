@@ -14,7 +14,7 @@ mod transition;
 pub use arc_kind::{ArcKind, UnknownKind};
 pub use clash::Clash;
 pub use counts::Counts;
-pub use fixed_vec::{Blank, FixedVec};
+pub use fixed_vec::FixedVec;
 pub use net::Net;
 pub use quantity::Quantity;
 pub use refusal_code::RefusalCode;

@@ -1,7 +1,5 @@
 // A term of a condition: it holds when each line of `high` is high and each line of `low` is low.
-ghost use Rattle.nets.specs.WellFormed.{always};
-
-use crate::fixed_vec::{Blank, FixedVec};
+use crate::fixed_vec::FixedVec;
 
 // The terms of a condition, at most four, in file order.
 pub type Terms = FixedVec<Term, 4>;
@@ -15,13 +13,4 @@ impl Terms {
 pub struct Term {
     pub high: u32,
     pub low: u32,
-}
-
-// A term that always holds.
-impl Blank for Term {
-    ghost blank = { always };
-
-    fn blank() -> Term {
-        Term { high: 0, low: 0 }
-    }
 }

@@ -1,13 +1,14 @@
 -- The first answer over a list, as a search through it ends.
-use Rattle.std.proofs.Common.{◌≡◌, ℕ, zero, suc, ◌<◌, List, [], ◌∷◌, length, get_or, take, Some, None, Option, refl, ap, ap₂, ◌∙◌, sym, arith, Bool, true, false, ◌&&◌, ⊎_elim}
+use Rattle.std.proofs.Common.{◌≡◌, ℕ, zero, suc, ◌<◌, List, [], ◌∷◌, length, get_or, Some, None, Option, refl, ap, ap₂, ◌∙◌, sym, arith, Bool, true, false, ◌&&◌, ⊎_elim}
 use Rattle.std.specs.Option.{MatchOption}
 use Rattle.nets.specs.Clashes.{or_else, first_below, first_over}
 use Rattle.nets.specs.Firing.{conflict}
-use Rattle.nets.specs.Nets.{Net, Transition, unconnected, at}
+use Rattle.nets.specs.Nets.{Net, Transition, at}
+use Rattle.nets.specs.Stored.{transition_of}
+use Rattle.nets.specs.declared.transition.Transition.{Transition as StoredTransition}
 use Rattle.nets.specs.Rounds.{conflicts_below}
 use Rattle.bitset.specs.Sets.{has}
 use Rattle.std.specs.Bool.{MatchBool}
-use Rattle.std.proofs.lemmas.List.{get_or-take}
 use Rattle.std.proofs.lemmas.Bool.{or_from, or_left, or_right, cases_lt}
 use Rattle.tokengame.proofs.Clashes.{found_at}
 
@@ -69,12 +70,12 @@ module _ (n : Net) (r : ℕ) (x : Transition) where
   conflicts_below_is k true h = sym (some_conflicts k h.0 h.1 h.2)
   conflicts_below_is k false h = sym (none_conflicts k h)
 
-  -- the same, where the transitions below k are looked at as a list of their own
-  pub conflicts_first_is : (k : ℕ) (b : Bool)
-      → MatchBool b ((i : ℕ) × (i < k) × ((has r i && conflict (get_or (take k n.transitions) i unconnected) x) ≡ true))
-      ((i : ℕ) → i < k → (has r i && conflict (get_or (take k n.transitions) i unconnected) x) ≡ false)
+  -- the same, where the transitions below k are looked at as they are held
+  pub conflicts_first_is : (xs : List StoredTransition) (d : StoredTransition) (k : ℕ) → ((i : ℕ) → i < k → transition_of (get_or xs i d) ≡ at n i) → (b : Bool)
+      → MatchBool b ((i : ℕ) × (i < k) × ((has r i && conflict (transition_of (get_or xs i d)) x) ≡ true))
+      ((i : ℕ) → i < k → (has r i && conflict (transition_of (get_or xs i d)) x) ≡ false)
       → b ≡ conflicts_below n r x k
-  conflicts_first_is k true h =
-      conflicts_below_is k true (h.0, h.1, ap (λ t. has r h.0 && conflict t x) (sym (get_or-take k n.transitions h.0 unconnected h.1)) ∙ h.2)
-  conflicts_first_is k false h =
-      conflicts_below_is k false (λ i j. ap (λ t. has r i && conflict t x) (sym (get_or-take k n.transitions i unconnected j)) ∙ h i j)
+  conflicts_first_is xs d k here true h =
+      conflicts_below_is k true (h.0, h.1, ap (λ t. has r h.0 && conflict t x) (sym (here h.0 h.1)) ∙ h.2)
+  conflicts_first_is xs d k here false h =
+      conflicts_below_is k false (λ i j. ap (λ t. has r i && conflict t x) (sym (here i j)) ∙ h i j)

@@ -1,6 +1,7 @@
 // Finding a clash: two conflicting transitions that can both fire at some marking under some line word. The two are parameters, as of a conflict.
 ghost use Rattle.std.specs.Prelude.{◌≡◌, length, min};
 ghost use Rattle.nets.specs.Clashes.{lines_of_both, lines_with, lines_for, clash_between, clash_with, first_clash as first_clash_of, Told};
+ghost use Rattle.nets.specs.Stored.{net_of, transition_of};
 
 use crate::conflicts::conflict;
 use crate::firing::{forbids, needs};
@@ -35,7 +36,7 @@ fn lines_for(terms: &[Term], others: &[Term]) -> Option<u32>
 
 // The clash of two transitions, which have these numbers.
 fn clash_between(one: &Transition, other: &Transition, lower: usize, higher: usize) -> Option<Clash>
-    ensures { result ≡ clash_between one.now other.now lower higher }
+    ensures { result ≡ clash_between (transition_of one.now) (transition_of other.now) lower higher }
 {
     let marking = needs(one).union(needs(other));
     let unmarked = forbids(one).union(forbids(other));
@@ -53,7 +54,7 @@ fn clash_between(one: &Transition, other: &Transition, lower: usize, higher: usi
 
 // The clash of transition `higher`, which is `other`, with the lowest that it clashes with.
 fn clash_below(net: &Net, higher: usize, other: &Transition) -> Option<Clash>
-    ensures { result ≡ clash_with net.now other.now higher (min higher (length net.now.transitions)) }
+    ensures { result ≡ clash_with (net_of net.now) (transition_of other.now) higher (min higher (length (net_of net.now).transitions)) }
 {
     let transitions = net.transitions();
     // A slice and no `take`, which would count beside the slice.
@@ -66,8 +67,8 @@ fn clash_below(net: &Net, higher: usize, other: &Transition) -> Option<Clash>
 
 // The clash with the least higher number, then the least lower, and where it shows.
 pub fn first_clash(net: &Net) -> Option<Clash>
-    ensures answer { result ≡ first_clash_of net.now }
-    ensures law { Told net.now result }
+    ensures answer { result ≡ first_clash_of (net_of net.now) }
+    ensures law { Told (net_of net.now) result }
 {
     net.transitions()
         .iter()

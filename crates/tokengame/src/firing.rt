@@ -2,6 +2,7 @@
 ghost use Rattle.std.specs.Prelude.{◌≡◌};
 ghost use Rattle.bitset.specs.Room.{word_of};
 ghost use Rattle.nets.specs.Firing.{term_holds, condition, needs as needed_places, forbids as forbidden_places, enabled, hindering as hindering_places, can_fire, fire as fired_marking};
+ghost use Rattle.nets.specs.Stored.{transition_of};
 
 use bitset::{PlaceSet, Word};
 use nets::{Term, Transition};
@@ -22,21 +23,21 @@ pub(crate) fn condition_holds(terms: &[Term], lines: u32) -> bool
 
 // The places that have to be marked where a transition fires.
 pub(crate) fn needs(transition: &Transition) -> PlaceSet
-    ensures { word_of result ≡ needed_places transition.now }
+    ensures { word_of result ≡ needed_places (transition_of transition.now) }
 {
     transition.consumes.union(transition.tests)
 }
 
 // The places that have to be unmarked where a transition fires.
 pub(crate) fn forbids(transition: &Transition) -> PlaceSet
-    ensures { word_of result ≡ forbidden_places transition.now }
+    ensures { word_of result ≡ forbidden_places (transition_of transition.now) }
 {
     transition.produces.union(transition.inhibits)
 }
 
 // The places for which a transition is not enabled.
 pub fn hindering(transition: &Transition, marking: PlaceSet) -> PlaceSet
-    ensures { word_of result ≡ hindering_places (word_of marking) transition.now }
+    ensures { word_of result ≡ hindering_places (word_of marking) (transition_of transition.now) }
 {
     let unmarked = needs(transition).without(marking);
     let marked = forbids(transition).common(marking);
@@ -45,21 +46,21 @@ pub fn hindering(transition: &Transition, marking: PlaceSet) -> PlaceSet
 
 // Whether a transition is enabled at a marking.
 fn is_enabled(transition: &Transition, marking: PlaceSet) -> bool
-    ensures { result ≡ enabled (word_of marking) transition.now }
+    ensures { result ≡ enabled (word_of marking) (transition_of transition.now) }
 {
     marking.includes(needs(transition)) && !forbids(transition).meets(marking)
 }
 
 // Whether a transition can fire at a marking under a line word.
 pub fn can_fire(transition: &Transition, marking: PlaceSet, lines: u32) -> bool
-    ensures { result ≡ can_fire (word_of marking) lines transition.now }
+    ensures { result ≡ can_fire (word_of marking) lines (transition_of transition.now) }
 {
     is_enabled(transition, marking) && condition_holds(transition.terms.as_slice(), lines)
 }
 
 // The marking after a transition fires.
 pub(crate) fn fire(transition: &Transition, marking: PlaceSet) -> PlaceSet
-    ensures { word_of result ≡ fired_marking (word_of marking) transition.now }
+    ensures { word_of result ≡ fired_marking (word_of marking) (transition_of transition.now) }
 {
     marking
         .without(transition.consumes)

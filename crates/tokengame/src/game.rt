@@ -6,6 +6,7 @@ ghost use Rattle.nets.specs.Firing.{fire as fired_marking};
 ghost use Rattle.nets.specs.Nets.{at};
 ghost use Rattle.tokengame.specs.Games.{obstacles, playable, GameLaws};
 ghost use Rattle.std.specs.Result.{result_err};
+ghost use Rattle.nets.specs.Stored.{net_of, transition_of};
 
 use crate::firing::{condition_holds, fire, hindering};
 use crate::game_refusal::GameRefusal;
@@ -15,10 +16,10 @@ use nets::{Net, Transition};
 
 // Transition `number` of the net, if nothing stands in the way of firing it.
 fn free_to_fire(net: &Net, now: Moment, number: usize) -> Result<&Transition, GameRefusal>
-    ensures refused { result_err result ≡ first_of (obstacles net.now (word_of now.marking) now.lines number) }
-    ensures accepted { is_ok result ≡ playable net.now (word_of now.marking) now.lines number }
-    ensures granted { IfOk result (λ t. t.now ≡ at net.now number) }
-    ensures laws { GameLaws net.now (word_of now.marking) now.lines number }
+    ensures refused { result_err result ≡ first_of (obstacles (net_of net.now) (word_of now.marking) now.lines number) }
+    ensures accepted { is_ok result ≡ playable (net_of net.now) (word_of now.marking) now.lines number }
+    ensures granted { IfOk result (λ t. transition_of t.now ≡ at (net_of net.now) number) }
+    ensures laws { GameLaws (net_of net.now) (word_of now.marking) now.lines number }
 {
     let Moment { marking, lines } = now;
     if !now.has_places(net) {
@@ -43,10 +44,10 @@ pub fn play(
     lines: u32,
     number: usize,
 ) -> Result<PlaceSet, GameRefusal>
-    ensures refused { result_err result ≡ first_of (obstacles net.now (word_of marking) lines number) }
-    ensures accepted { is_ok result ≡ playable net.now (word_of marking) lines number }
-    ensures granted { IfOk result (λ m. word_of m ≡ fired_marking (word_of marking) (at net.now number)) }
-    ensures laws { GameLaws net.now (word_of marking) lines number }
+    ensures refused { result_err result ≡ first_of (obstacles (net_of net.now) (word_of marking) lines number) }
+    ensures accepted { is_ok result ≡ playable (net_of net.now) (word_of marking) lines number }
+    ensures granted { IfOk result (λ m. word_of m ≡ fired_marking (word_of marking) (at (net_of net.now) number)) }
+    ensures laws { GameLaws (net_of net.now) (word_of marking) lines number }
 {
     let now = Moment { marking, lines };
     let transition = free_to_fire(net, now, number)?;

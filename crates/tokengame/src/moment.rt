@@ -1,10 +1,11 @@
 // A marking and a line word: what says which transitions can fire. Open calls take these and the net apart: a caller has them from different hands.
-ghost use Rattle.std.specs.Prelude.{◌≡◌, ◌<◌, length};
+ghost use Rattle.std.specs.Prelude.{◌≡◌, ◌<◌, ◌&&◌, length};
 ghost use Rattle.bitset.specs.Room.{word_of};
-ghost use Rattle.bitset.specs.Sets.{within, below};
-ghost use Rattle.nets.specs.Firing.{can_fire as fires};
+ghost use Rattle.bitset.specs.Sets.{has, within, below};
+ghost use Rattle.nets.specs.Firing.{can_fire as fires, conflict as is_conflict};
 ghost use Rattle.nets.specs.Nets.{at};
 ghost use Rattle.nets.specs.Rounds.{conflicts_below, take_next, taken as taken_below};
+ghost use Rattle.nets.specs.Stored.{net_of, transition_of};
 
 use crate::conflicts::conflict;
 use crate::firing::can_fire;
@@ -17,20 +18,30 @@ pub(crate) struct Moment {
     pub(crate) lines: u32,
 }
 
+// Whether a transition, which has this number, is taken and conflicts with `transition`.
+fn excludes(taken: TransitionSet, number: usize, held: &Transition, transition: &Transition) -> bool
+    ensures { result ≡ (has (word_of taken) number && is_conflict (transition_of held.now) (transition_of transition.now)) }
+{
+    taken.has(number) && conflict(held, transition)
+}
+
 // Whether one of the transitions taken below `number` conflicts with `transition`.
 fn excluded(net: &Net, taken: TransitionSet, number: usize, transition: &Transition) -> bool
-    ensures { number < length net.now.transitions → result ≡ conflicts_below net.now (word_of taken) transition.now number }
+    ensures { number < length (net_of net.now).transitions → result ≡ conflicts_below (net_of net.now) (word_of taken) (transition_of transition.now) number }
 {
     let transitions = net.transitions();
     // A slice and no `take`, as for a clash.
     let below = &transitions[..number.min(transitions.len())];
-    below.iter().enumerate().any(|(other, held)| taken.has(other) && conflict(held, transition))
+    below
+        .iter()
+        .enumerate()
+        .any(|(other, held)| excludes(taken, other, held, transition))
 }
 
 impl Moment {
     // Whether the net has each place of the marking.
     pub(crate) fn has_places(&self, net: &Net) -> bool
-        ensures { result ≡ within (word_of self.now.marking) (below net.now.places) }
+        ensures { result ≡ within (word_of self.now.marking) (below (net_of net.now).places) }
     {
         PlaceSet::below(net.counts().places).includes(self.marking)
     }
@@ -44,9 +55,9 @@ impl Moment {
         transition: &Transition,
     ) -> TransitionSet
         requires few { number < 64 }
-        requires of_the_net { number < length net.now.transitions }
-        requires same { transition.now ≡ at net.now number }
-        ensures { word_of result ≡ take_next net.now (word_of self.now.marking) self.now.lines number (word_of taken) }
+        requires of_the_net { number < length (net_of net.now).transitions }
+        requires same { transition_of transition.now ≡ at (net_of net.now) number }
+        ensures { word_of result ≡ take_next (net_of net.now) (word_of self.now.marking) self.now.lines number (word_of taken) }
     {
         if can_fire(transition, self.marking, self.lines)
             && !excluded(net, taken, number, transition)
@@ -59,7 +70,7 @@ impl Moment {
 
     // The transitions that are taken, in rising number.
     pub(crate) fn taken(&self, net: &Net) -> TransitionSet
-        ensures { word_of result ≡ taken_below net.now (word_of self.now.marking) self.now.lines (length net.now.transitions) }
+        ensures { word_of result ≡ taken_below (net_of net.now) (word_of self.now.marking) self.now.lines (length (net_of net.now).transitions) }
     {
         let mut taken = TransitionSet::empty();
         for (number, transition) in net.transitions().iter().enumerate() {

@@ -2,6 +2,7 @@
 ghost use Rattle.std.specs.Prelude.{◌≡◌};
 ghost use Rattle.bitset.specs.Room.{word_of};
 ghost use Rattle.nets.specs.Rounds.{begins as beginning, fire_all as fired_together, report as report_of, ends, Round, LawsTellTheRound, RoundsKeepWeights, LinesIgnored};
+ghost use Rattle.nets.specs.Stored.{net_of};
 
 use crate::moment::Moment;
 use bitset::{PlaceSet, TransitionSet};
@@ -9,7 +10,7 @@ use nets::Net;
 
 // Where a round begins.
 fn begins(net: &Net, marking: PlaceSet) -> PlaceSet
-    ensures { word_of result ≡ beginning net.now (word_of marking) }
+    ensures { word_of result ≡ beginning (net_of net.now) (word_of marking) }
 {
     if marking.is_empty() {
         net.start()
@@ -20,7 +21,7 @@ fn begins(net: &Net, marking: PlaceSet) -> PlaceSet
 
 // The marking after all of `fired` fire together.
 fn fire_all(net: &Net, fired: TransitionSet, marking: PlaceSet) -> PlaceSet
-    ensures { word_of result ≡ fired_together net.now (word_of fired) (word_of marking) }
+    ensures { word_of result ≡ fired_together (net_of net.now) (word_of fired) (word_of marking) }
 {
     let mut consumed = PlaceSet::empty();
     let mut produced = PlaceSet::empty();
@@ -42,12 +43,12 @@ pub struct Outcome {
 
 // One round from a marking under a line word.
 pub fn round(net: &Net, marking: PlaceSet, lines: u32) -> Outcome
-    ensures report { word_of result.report ≡ report_of net.now (word_of marking) lines }
-    ensures end { word_of result.marking ≡ ends net.now (word_of marking) lines }
-    ensures law { Round net.now lines (word_of marking) (word_of result.report) (word_of result.marking) }
+    ensures report { word_of result.report ≡ report_of (net_of net.now) (word_of marking) lines }
+    ensures end { word_of result.marking ≡ ends (net_of net.now) (word_of marking) lines }
+    ensures law { Round (net_of net.now) lines (word_of marking) (word_of result.report) (word_of result.marking) }
     ensures told { LawsTellTheRound }
     ensures weights { RoundsKeepWeights }
-    ensures ignored { LinesIgnored net.now (word_of marking) lines }
+    ensures ignored { LinesIgnored (net_of net.now) (word_of marking) lines }
 {
     let marking = begins(net, marking);
     let report = Moment { marking, lines }.taken(net);

@@ -3,6 +3,7 @@ ghost use Rattle.std.specs.Prelude.{◌≡◌, if◌then◌else◌, bit_or};
 ghost use Rattle.bitset.specs.Room.{word_of};
 ghost use Rattle.bitset.specs.Sets.{has};
 ghost use Rattle.nets.specs.Rounds.{outputs_of, Raised};
+ghost use Rattle.nets.specs.Stored.{net_of};
 
 use bitset::PlaceSet;
 use nets::Net;
@@ -17,8 +18,8 @@ fn raise(marking: PlaceSet, place: usize, word: u32, raised: u32) -> u32
 
 // All that the marked places raise.
 pub fn outputs(net: &Net, marking: PlaceSet) -> u32
-    ensures answer { result ≡ outputs_of net.now (word_of marking) }
-    ensures law { Raised net.now (word_of marking) }
+    ensures answer { result ≡ outputs_of (net_of net.now) (word_of marking) }
+    ensures law { Raised (net_of net.now) (word_of marking) }
 {
     let mut raised = 0;
     for (place, word) in net.raises().iter().enumerate() {

@@ -1,13 +1,14 @@
 use Rattle.std.proofs.Common.{◌≡◌, ℕ, length, sym, ap, ◌∙◌, subst, ap₂}
 use Rattle.bitset.specs.Room.{word_of}
 use Rattle.nets.specs.Rounds.{taken, fire_all, report, ends, Round}
+use Rattle.nets.specs.Stored.{net_of}
 use Rattle.tokengame.proofs.Rounds.{rounds_keep_their_laws, rounds_keep_weights, lines_ignored}
 use Rattle.tokengame.proofs.Told.{laws_tell_the_round}
 use Rattle.tokengame.proofs.one_round.round.Goals as goal
 
 pub returns : goal.returns
 returns c =
-    let n = c.args.net.now in
+    let n = net_of c.args.net.now in
     let m = word_of c.args.marking in
     let w = c.args.lines in
     let told : word_of c.taken-report.result ≡ report n m w =
