@@ -9,7 +9,7 @@ ghost use Rattle.std.specs.Result.{result_err};
 use crate::records::Record;
 use bitset::Word;
 use netlayout::{RecordFault, Refusal, Table};
-use nets::{Net, Term};
+use nets::{Net, Term, Terms};
 
 // A term as the file has it, and its transition.
 #[derive(Clone, Copy)]
@@ -61,7 +61,7 @@ impl Record<9> for TermRecord {
             return Err(Refusal::Record(Table::Terms, index, RecordFault::Transition));
         };
         check_words(self.term, net.counts().lines, index)?;
-        if transition.terms.is_full() {
+        if transition.terms.len() >= Terms::MOST {
             return Err(Refusal::FifthTerm(index));
         }
         net.add_term(self.transition, self.term);
